@@ -1,7 +1,7 @@
 -- How a text is cut into tokens: a walk from its start to its end, in which a gap (white space, a comment) that starts
 -- at a place is passed over, and else the longest token that starts there is the next one. What starts at a place is
 -- each language's own.
-use Rattle.std.specs.Prelude.{◌≡◌, ℕ, List, [], ◌∷◌, Option, Some}
+use Rattle.std.specs.Prelude.{◌≡◌, ℕ, List, [], ◌∷◌}
 
 -- what starts at a place of a text, with the text behind it
 pub data Start : Type 0 where

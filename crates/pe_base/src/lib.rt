@@ -5,7 +5,6 @@ mod name;
 mod text;
 mod value;
 
-pub use name::Name;
+pub use name::{Name, are_distinct, has_name, place_of};
 pub use text::{Span, Step, Texts, Want};
-pub use value::{Val, and, known, merge, not, or, pick, refines};
-pub use value::{exact_law, merge_law};
+pub use value::{Val, and, exact_law, known, merge, merge_law, not, or, pick, refines};

@@ -1,6 +1,8 @@
 //! Names, compared as bytes and never as text.
 
 ghost use Rattle.std.specs.Prelude.{◌≡◌, ◌↔◌, IsTrue, IfOk};
+ghost use Rattle.std.specs.Str.{bytes_eq};
+ghost use Rattle.pe_base.specs.Names.{has_name, are_distinct, place_of};
 
 use crate::text::Want;
 use std::alloc::Global;
@@ -48,8 +50,40 @@ impl Name {
 
     /// Whether it has these bytes.
     pub fn is(&self, bytes: &[u8]) -> bool
-        ensures { IsTrue result ↔ (self.now ≡ bytes.now) }
+        ensures same { IsTrue result ↔ (self.now ≡ bytes.now) }
+        ensures test { result ≡ bytes_eq self.now bytes.now }
     {
         self.bytes.as_slice() == bytes
     }
+}
+
+/// Whether the name is one of these.
+pub fn has_name(names: &[Name], name: &[u8]) -> bool
+    ensures { result ≡ has_name names.now name.now }
+{
+    names.iter().any(|other| other.is(name))
+}
+
+/// Whether no two of the names are the same.
+pub fn are_distinct(names: &[Name]) -> bool
+    ensures { result ≡ are_distinct names.now }
+{
+    for (i, name) in names.iter().enumerate() {
+        if has_name(&names[i + 1..], name.bytes()) {
+            return false;
+        }
+    }
+    true
+}
+
+/// The first place of the name, counted from 0, or how many names there are.
+pub fn place_of(names: &[Name], name: &[u8]) -> usize
+    ensures { result ≡ place_of names.now name.now }
+{
+    for (i, other) in names.iter().enumerate() {
+        if other.is(name) {
+            return i;
+        }
+    }
+    names.len()
 }

@@ -83,12 +83,10 @@ pub fn not(a: Val) -> Val
 pub fn exact_law()
     ensures { (f : List Bool → Bool) (values : List Val) (bit : Bool) →
         (exact_extension f values ≡ known_of bit) ↔ ((r : List Bool) → IsReplacement values r → f r ≡ bit) }
-{
-}
+{}
 
 /// The law of the merge over replacements: it is a known bit exactly where every replacement gives that bit.
 pub fn merge_law()
     ensures { (g : List Bool → Val) (values : List Val) (bit : Bool) →
         (merge_over values g ≡ known_of bit) ↔ ((r : List Bool) → IsReplacement values r → g r ≡ known_of bit) }
-{
-}
+{}
