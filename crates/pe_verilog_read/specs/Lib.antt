@@ -1,0 +1,4 @@
+pub mod Tokens
+pub mod Ports
+pub mod Rtl
+pub mod Net

@@ -1,0 +1,10 @@
+//! Reads the Verilog that is accepted today: an RTL module of one-bit assignments, and a netlist module of cells.
+#![tactic(auto)]
+
+mod fault;
+mod net;
+mod rtl;
+
+pub use fault::ReadFault;
+pub use net::{Connection, Instance, NetItem, NetModule, read_net};
+pub use rtl::{Assign, Direction, Expr, Port, RtlItem, RtlModule, read_rtl};
