@@ -1,0 +1,8 @@
+//! Reads the plain spelling of a Liberty library.
+#![tactic(auto)]
+
+mod fault;
+mod library;
+
+pub use fault::ReadFault;
+pub use library::{Library, Statement, Value, read_library};

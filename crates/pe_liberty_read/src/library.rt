@@ -1,0 +1,47 @@
+//! A library as its statements.
+
+ghost use Rattle.std.specs.Prelude.{◌≡◌, IfOk};
+ghost use Rattle.pe_liberty_read.specs.declared.library.Library.{Library};
+ghost use Rattle.pe_liberty_read.specs.Spelling.{IsLibrary, IsLibraryAnswer};
+
+use crate::fault::ReadFault;
+use pe_base::Name;
+use sqlite_items::Items;
+use std::alloc::Global;
+
+/// A value or an argument: a word as it stands, or the bytes between two quotes.
+#[derive(Debug, Drop)]
+pub enum Value {
+    Word(Name),
+    Text(Name),
+}
+
+/// A statement of a library. A group is its opening, what stands in it, and its end.
+#[derive(Debug, Drop)]
+pub enum Statement {
+    /// `kind (args) {`
+    Open { kind: Name, args: Items<Value> },
+    /// `}`
+    Close,
+    /// `name : value ;`
+    Simple { name: Name, value: Value },
+    /// `name (args) ;`
+    Complex { name: Name, args: Items<Value> },
+}
+
+/// The group `library`: its arguments, and what stands in it in the order of the text.
+#[derive(Debug, Drop)]
+pub struct Library {
+    pub args: Items<Value>,
+    pub body: Items<Statement>,
+}
+
+/// The library that a text spells. `NotBuilt` comes exactly where the text spells none in the plain spelling.
+pub fn read_library(_alloc: Global, _text: &[u8]) -> Result<Library, ReadFault>
+    // What is read is spelled.
+    ensures found { IfOk result (λ l. IsLibrary _text.now l) }
+    // What is spelled is read, unless memory runs out.
+    ensures only { (l : Library) → IsLibrary _text.now l → IsLibraryAnswer l result }
+{
+    Err(ReadFault::Memory)
+}
