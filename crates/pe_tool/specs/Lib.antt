@@ -1,0 +1,3 @@
+pub mod UpfTokens
+pub mod Upf
+pub mod Intent
