@@ -1,3 +1,13 @@
 pub mod UpfTokens
 pub mod Upf
 pub mod Intent
+pub mod Function
+pub mod Cell
+pub mod Map
+pub mod Rows
+pub mod RtlMeaning
+pub mod NetMeaning
+pub mod Fit
+pub mod Questions
+pub mod Equivalent
+pub mod Outcome

@@ -1,10 +1,18 @@
 //! Compares an RTL module under its UPF power intent with a netlist of Liberty cells.
 #![tactic(auto)]
 
+mod cell;
+mod design;
 mod fault;
+mod function;
 mod intent;
+mod question;
 mod upf;
 
+pub use cell::{CellOutput, CellView};
+pub use design::Design;
 pub use fault::FormFault;
+pub use function::{Literal, Product, Sum};
 pub use intent::{Level, PowerIntent, Row};
+pub use question::{CheckFault, Fault, Part, Plain, Point, Question};
 pub use upf::{Command, PortState};
