@@ -1,0 +1,4 @@
+pub mod NameFacts
+pub mod RtlSettled
+pub mod Extensions
+pub mod NetSettled

@@ -1,7 +1,7 @@
 -- What a netlist of cells means: its settled maps. A map gives each net a value, in the order of the nets. It is settled
 -- where each net has what drives it under this same map: an input its given value, and a net on a cell's output pin the
 -- exact extension of the pin's function, corrupt where the pin's power_down_function is 1 or corrupt (Liberty).
-use Rattle.std.specs.Prelude.{◌≡◌, ℕ, ◌<◌, Bool, false, cond, not, List, [], ◌∷◌, ◌++◌, map, length, slice_index_or, Option, Some, None}
+use Rattle.std.specs.Prelude.{◌≡◌, ℕ, ◌<◌, Bool, false, cond, not, List, [], ◌∷◌, ◌++◌, map, length, slice_index_or, find, Option, Some, None}
 use Rattle.std.specs.List.{zip}
 use Rattle.std.specs.Str.{bytes_eq}
 use Rattle.pe_base.specs.declared.value.Val.{Val}
@@ -30,10 +30,13 @@ pub record Use : Type 0 where
   pub instance : Instance
   pub view : CellView
 
+abbrev pub make_use : Instance → CellView → Use
+make_use i v = record { instance = i; view = v }
+
 abbrev pub uses_of : List Instance → List CellView → List Use
 uses_of [] views = []
 uses_of (i ∷ is) [] = []
-uses_of (i ∷ is) (v ∷ vs) = record { instance = i; view = v } ∷ uses_of is vs
+uses_of (i ∷ is) (v ∷ vs) = make_use i v ∷ uses_of is vs
 
 abbrev pub uses : Design → List Use
 uses d = uses_of (instances d.net.items) d.views
@@ -82,14 +85,18 @@ abbrev pub is_on : List ℕ → Option (List ℕ) → Bool
 is_on name None = false
 is_on name (Some net) = bytes_eq net name
 
--- the first of the outputs that is on the net, or else what drives it otherwise
-abbrev pub output_on : List ℕ → Use → List CellOutput → Driver → Driver
-output_on name u [] otherwise = otherwise
-output_on name u (o ∷ os) otherwise = cond (is_on name (net_on u.instance.connections o.name)) (output u o) (output_on name u os otherwise)
+-- the first of a cell's outputs that is on the net
+abbrev pub output_on : List ℕ → Use → Option CellOutput
+output_on name u = find (λ o. is_on name (net_on u.instance.connections o.name)) u.view.outputs
+
+-- the output, if there is one, or else what drives the net otherwise
+abbrev pub output_or : Use → Option CellOutput → Driver → Driver
+output_or u None otherwise = otherwise
+output_or u (Some o) otherwise = output u o
 
 abbrev pub cell_on : List ℕ → List Use → Driver
 cell_on name [] = undriven
-cell_on name (u ∷ us) = output_on name u u.view.outputs (cell_on name us)
+cell_on name (u ∷ us) = output_or u (output_on name u) (cell_on name us)
 
 abbrev pub driver_of : Design → List ℕ → Driver
 driver_of d name = cond (has_name (input_names d.rtl.ports) name) (given (place_of (input_names d.rtl.ports) name)) (cell_on name (uses d))

@@ -6,7 +6,10 @@ mod design;
 mod fault;
 mod function;
 mod intent;
+mod net_value;
+mod ports;
 mod question;
+mod rtl_value;
 mod upf;
 
 pub use cell::{CellOutput, CellView};
