@@ -2,3 +2,5 @@ pub mod NameFacts
 pub mod RtlSettled
 pub mod Extensions
 pub mod NetSettled
+pub mod Searches
+pub mod Refutes

@@ -75,7 +75,7 @@ value_in-map f (other ∷ names) name e = at_head (bytes_eq other name) refl (va
 pub has_left : (xs ys : List (List ℕ)) (name : List ℕ) → has_name xs name ≡ true → has_name (xs ++ ys) name ≡ true
 has_left xs ys name e = list_any-append (λ other. bytes_eq other name) xs ys ∙ ap (λ b. b || has_name ys name) e
 
-or_right : (a c : Bool) → c ≡ true → (a || c) ≡ true
+pub or_right : (a c : Bool) → c ≡ true → (a || c) ≡ true
 or_right true c k = refl
 or_right false c k = k
 
@@ -91,3 +91,17 @@ input_is_port (p ∷ ps) name e = at_head p.direction refl (input_is_port ps nam
     at_head : (d : Direction) → p.direction ≡ d → (has_name (input_names ps) name ≡ true → has_name (port_names ps) name ≡ true) → (bytes_eq p.name name || has_name (port_names ps) name) ≡ true
     at_head Input k more = or_more (bytes_eq p.name name) (has_name (input_names ps) name) (has_name (port_names ps) name) more (rw k at e)
     at_head Output k more = or_right (bytes_eq p.name name) (has_name (port_names ps) name) (more (rw k at e))
+
+-- an output is a port
+pub output_is_port : (ports : List Port) (name : List ℕ) → has_name (output_names ports) name ≡ true → has_name (port_names ports) name ≡ true
+output_is_port [] name e = e
+output_is_port (p ∷ ps) name e = at_head p.direction refl (output_is_port ps name)
+  where
+    at_head : (d : Direction) → p.direction ≡ d → (has_name (output_names ps) name ≡ true → has_name (port_names ps) name ≡ true) → (bytes_eq p.name name || has_name (port_names ps) name) ≡ true
+    at_head Output k more = or_more (bytes_eq p.name name) (has_name (output_names ps) name) (has_name (port_names ps) name) more (rw k at e)
+    at_head Input k more = or_right (bytes_eq p.name name) (has_name (port_names ps) name) (more (rw k at e))
+
+-- a name is among names of which it is one
+pub has_itself : (before after : List (List ℕ)) (name : List ℕ) → has_name (before ++ name ∷ after) name ≡ true
+has_itself [] after name = ap (λ b. b || has_name after name) ((bytes_eq-Decides name name).1 refl)
+has_itself (other ∷ before) after name = or_right (bytes_eq other name) (has_name (before ++ name ∷ after) name) (has_itself before after name)

@@ -19,7 +19,7 @@ use Rattle.pe_tool.specs.NetMeaning.{net_on, Use, uses, supply_on, value_on, pin
 use Rattle.pe_tool.specs.Function.{sum_holds}
 use Rattle.pe_base.specs.Values.{exact_extension}
 use Rattle.pe_tool.specs.Fit.{is_among, all_on, is_joined, has_ports, drives_each_once, is_fit, driven_nets, to_drive}
-use Rattle.pe_tool.proofs.NameFacts.{and_left, and_right, all_named, place_below, name_at_place, value_in-map, has_left, input_is_port}
+use Rattle.pe_tool.proofs.NameFacts.{and_left, and_right, all_named, place_below, name_at_place, value_in-map, has_left, input_is_port, output_is_port}
 use Rattle.std.proofs.lemmas.Slice.Eq.{bytes_eq-Decides}
 
 -- two ways to give nets values agree at the RTL's inputs
@@ -91,7 +91,7 @@ driven_agrees d roots bits f g name h e = at_head (has_name (input_names d.rtl.p
 input_driven : (d : Design) (roots bits : List Bool) (f : List ℕ → Val) (a : List ℕ) → has_name (input_names d.rtl.ports) a ≡ true → driven d roots bits f (driver_of d a) ≡ input_value d bits a
 input_driven d roots bits f a h = rw h refl
 
-fit_ports : (d : Design) → is_fit d ≡ true → has_ports d ≡ true
+pub fit_ports : (d : Design) → is_fit d ≡ true → has_ports d ≡ true
 fit_ports d e =
     let named = bytes_eq d.net.name d.rtl.name in
     and_right named (has_ports d) (and_left (named && has_ports d) (list_all (is_joined d) (uses d)) (and_left (named && has_ports d && list_all (is_joined d) (uses d)) (drives_each_once d) e))
@@ -144,3 +144,14 @@ net_settled_only d roots bits values e s =
     s.each k within
     ∙ driven_agrees d roots bits (value_in (net_nets d.net) values) (input_value d bits) (name_at (net_nets d.net) k) agree (fit_joined d e)
     ∙ sym (get_or-map (net_value d roots bits) (net_nets d.net) k [] Corrupt within))
+
+-- the RTL's outputs are nets of the netlist
+pub output_is_net : (d : Design) → is_fit d ≡ true → (a : List ℕ) → has_name (output_names d.rtl.ports) a ≡ true → has_name (net_nets d.net) a ≡ true
+output_is_net d e a h =
+    let x = all_among (input_names d.net.ports) (input_names d.rtl.ports) in
+    let y = all_among (output_names d.net.ports) (output_names d.rtl.ports) in
+    let z = all_among (input_names d.net.ports) d.intent.roots in
+    let n = length d.net.ports == length d.rtl.ports + length d.intent.roots in
+    let outputs : y ≡ true = and_right x y (and_left (x && y) z (and_left (x && y && z) n (fit_ports d e))) in
+    has_left (port_names d.net.ports) (net_wires d.net.items) a
+    (output_is_port d.net.ports a (all_named (has_name (output_names d.net.ports)) (output_names d.rtl.ports) a outputs h))

@@ -1,6 +1,7 @@
 //! Compares an RTL module under its UPF power intent with a netlist of Liberty cells.
 #![tactic(auto)]
 
+mod answer;
 mod cell;
 mod design;
 mod fault;

@@ -162,7 +162,7 @@ fn sum_holds(order: &[Name], sum: &Sum, bits: &[bool]) -> bool
 
 
 // The bits with one more behind them.
-fn extended(alloc: Global, bits: &[bool], bit: bool) -> Result<Items<bool>, Want>
+pub(crate) fn extended(alloc: Global, bits: &[bool], bit: bool) -> Result<Items<bool>, Want>
     ensures { IfOk result (λ more. more ≡ bits.now ++ bit ∷ []) }
 {
     let mut more = Items::from_slice(alloc, bits)?;
