@@ -4,3 +4,4 @@ pub mod Extensions
 pub mod NetSettled
 pub mod Searches
 pub mod Refutes
+pub mod Headline
