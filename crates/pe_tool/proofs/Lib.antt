@@ -5,3 +5,4 @@ pub mod NetSettled
 pub mod Searches
 pub mod Refutes
 pub mod Headline
+pub mod Views

@@ -1,5 +1,5 @@
 -- When a netlist fits an RTL module, its supplies and the views of its cells, in the form that is built.
-use Rattle.std.specs.Prelude.{◌≡◌, ℕ, ◌+◌, ◌==◌, Bool, true, false, cond, ◌&&◌, List, [], ◌∷◌, ◌++◌, map, length, Option, Some, None}
+use Rattle.std.specs.Prelude.{◌≡◌, ℕ, ◌+◌, ◌==◌, Bool, true, false, cond, ◌&&◌, List, [], ◌∷◌, ◌++◌, map, length, Option, Some, None, Result, Ok, Err}
 use Rattle.std.specs.List.{list_all, list_any, flat_map, AllZip}
 use Rattle.std.specs.Str.{bytes_eq}
 use Rattle.pe_base.specs.Names.{has_name, are_distinct}
@@ -15,6 +15,8 @@ use Rattle.pe_verilog_read.specs.Net.{instances, net_wires, pins}
 use Rattle.pe_liberty_read.specs.declared.library.Library.{Library}
 use Rattle.pe_tool.specs.declared.cell.CellView.{CellView}
 use Rattle.pe_tool.specs.declared.design.Design.{Design}
+use Rattle.pe_tool.specs.declared.fault.FormFault.{FormFault}
+use Rattle.pe_tool.specs.declared.fault.FormFault.TheVariants.{Memory, NotBuilt}
 use Rattle.pe_tool.specs.Cell as cell
 use Rattle.pe_tool.specs.NetMeaning.{net_on, Use, uses}
 
@@ -69,3 +71,9 @@ is_fit d = bytes_eq d.net.name d.rtl.name && has_ports d && list_all (is_joined 
 -- each instance's cell has its view
 abbrev pub HasViews : Library → List Instance → List CellView → Type 0
 HasViews l = AllZip (λ i v. cell.IsCell l i.cell v)
+
+-- the answer is these views, unless memory ran out
+abbrev pub AreViews : List CellView → Result (List CellView) FormFault → Type 0
+AreViews views (Ok others) = others ≡ views
+AreViews views (Err Memory) = Unit {0}
+AreViews views (Err NotBuilt) = ⊥

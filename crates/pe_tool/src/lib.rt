@@ -5,6 +5,7 @@ mod answer;
 mod cell;
 mod design;
 mod fault;
+mod fit;
 mod function;
 mod intent;
 mod net_value;

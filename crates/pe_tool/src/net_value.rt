@@ -123,7 +123,7 @@ fn pin_values(
 }
 
 // The pins that functions read: the inputs, the power pin and the ground pin.
-fn read_pins(alloc: Global, view: &CellView) -> Result<Items<Name>, Want>
+pub(crate) fn read_pins(alloc: Global, view: &CellView) -> Result<Items<Name>, Want>
     ensures { IfOk result (λ ns. ns ≡ read_pins view.now) }
 {
     let mut names = Items::new(alloc);
