@@ -6,3 +6,4 @@ pub mod Searches
 pub mod Refutes
 pub mod Headline
 pub mod Views
+pub mod Powers

@@ -57,7 +57,14 @@ IsOutcome t (Err (Refused part NotBuilt)) = IsNotBuilt part t
 IsOutcome t (Err (Refused Rtl (TooWide count))) = IsTooWide t count
 IsOutcome t (Err (Refused _ (TooWide count))) = ⊥
 
--- the answer is this one, unless memory ran out
+-- the answers are the same; where memory ran out nothing is said
 abbrev pub IsSame : Result Plain CheckFault → Result Plain CheckFault → Type 0
+IsSame (Err Memory) answer = Unit {0}
 IsSame other (Err Memory) = Unit {0}
 IsSame other answer = answer ≡ other
+
+-- a refusal of a text that is not built is right
+abbrev pub IsRefused : Texts → CheckFault → Type 0
+IsRefused t Memory = Unit {0}
+IsRefused t (Refused part NotBuilt) = IsNotBuilt part t
+IsRefused t (Refused part (TooWide count)) = ⊥

@@ -3,6 +3,7 @@
 
 mod answer;
 mod cell;
+mod check;
 mod design;
 mod fault;
 mod fit;
