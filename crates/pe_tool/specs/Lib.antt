@@ -1,3 +1,4 @@
 pub mod UpfTokens
+pub mod UpfReading
 pub mod Upf
 pub mod Intent

@@ -4,6 +4,8 @@ ghost use Rattle.std.specs.Prelude.{◌≡◌, IfOk, List};
 ghost use Rattle.pe_tool.specs.declared.upf.Command.{Command};
 ghost use Rattle.pe_tool.specs.Upf.{IsUpf, IsUpfAnswer};
 
+mod lexer;
+
 use crate::fault::FormFault;
 use pe_base::Name;
 use sqlite_items::Items;
