@@ -5,6 +5,7 @@ ghost use Rattle.pe_tool.specs.declared.upf.Command.{Command};
 ghost use Rattle.pe_tool.specs.Upf.{IsUpf, IsUpfAnswer};
 
 mod lexer;
+mod words;
 
 use crate::fault::FormFault;
 use pe_base::Name;
