@@ -1,1 +1,3 @@
 pub mod UpfStarts
+pub mod UpfWords
+pub mod UpfStates

@@ -29,11 +29,15 @@ abbrev pub ◌>>=◌ : {A B : Type 0} → Option A → (A → Option B) → Opti
 None >>= f = None
 (Some x) >>= f = f x
 
+-- memory ran out, or nothing is read
+abbrev pub Fails : {Y : Type 0} → FormFault → Option Y → Type 0
+Fails Memory read = Unit {0}
+Fails NotBuilt read = read ≡ None
+
 -- what a function returned, seen by view, is what reading gives, unless memory ran out
 abbrev pub Gives : {X Y : Type 0} → (X → Y) → Result X FormFault → Option Y → Type 0
 Gives view (Ok x) read = read ≡ Some (view x)
-Gives view (Err Memory) read = Unit {0}
-Gives view (Err NotBuilt) read = read ≡ None
+Gives view (Err e) read = Fails e read
 
 -- ---- tokens and words
 

@@ -4,6 +4,7 @@ ghost use Rattle.std.specs.Prelude.{◌≡◌, IfOk, List};
 ghost use Rattle.pe_tool.specs.declared.upf.Command.{Command};
 ghost use Rattle.pe_tool.specs.Upf.{IsUpf, IsUpfAnswer};
 
+mod commands;
 mod lexer;
 mod words;
 
