@@ -1,3 +1,5 @@
 pub mod UpfStarts
 pub mod UpfWords
 pub mod UpfStates
+pub mod UpfCommands
+pub mod UpfRuns

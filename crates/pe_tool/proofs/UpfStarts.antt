@@ -63,12 +63,12 @@ start_leaves (b ∷ bs) =
 
 -- ---- steps of the loop over the places of a text
 
-pub not_empty : (text : List ℕ) (b : Bool) → b ≡ eqb (length text) 0 → b ≡ false → text ≢ []
-not_empty [] b e f k = absurd cc
-not_empty (x ∷ xs) b e f k = absurd cc
+pub is_left : {A : Type 0} (list : List A) (b : Bool) → b ≡ eqb (length list) 0 → b ≡ false → list ≢ []
+is_left [] b e f k = absurd cc
+is_left (x ∷ xs) b e f k = absurd cc
 
-pub is_empty : (text : List ℕ) (b : Bool) → b ≡ eqb (length text) 0 → b ≡ true → text ≡ []
-is_empty text b e f = nil_from_length text (eqb-true _ _ (sym e ∙ f))
+pub is_over : {A : Type 0} (list : List A) (b : Bool) → b ≡ eqb (length list) 0 → b ≡ true → list ≡ []
+is_over list b e f = nil_from_length list (eqb-true _ _ (sym e ∙ f))
 
 pub gap_leaves : (text after : List ℕ) → gap after ≡ upf_start text → length after < length text
 gap_leaves text after e = let P : Start → Type 0 = λ s. Leaves (length text) s in subst P (sym e) (start_leaves text)

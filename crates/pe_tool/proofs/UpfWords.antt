@@ -12,6 +12,14 @@ pub bind_some : {A B : Type 0} (r : Option A) (f : A → Option B) (y : B) → (
 bind_some (Some x) f y e = (x, refl, e)
 bind_some None f y e = absurd cc
 
+-- the same, to be taken apart by cases
+pub data Step {A B : Type 0} (r : Option A) (f : A → Option B) (y : B) : Type 0 where
+  read : (x : A) → r ≡ Some x → f x ≡ Some y → Step r f y
+
+pub step : {A B : Type 0} (r : Option A) (f : A → Option B) (y : B) → (r >>= f) ≡ Some y → Step r f y
+step (Some x) f y e = read x refl e
+step None f y e = absurd cc
+
 -- a test that did not fail
 pub guard_some : {A : Type 0} (b : Bool) (x y : A) → cond b (Some x) None ≡ Some y → (b ≡ true) × (x ≡ y)
 guard_some true x y e = (refl, cc)
