@@ -3,3 +3,4 @@ pub mod UpfWords
 pub mod UpfStates
 pub mod UpfCommands
 pub mod UpfRuns
+pub mod UpfLaws

@@ -355,3 +355,103 @@ command_takes (name ∷ rest) x e =
                 ]
           ]
     ]
+
+-- ---- what is spelled is read
+
+set_design_top_again : (top : List ℕ) (rest : List (List ℕ)) → is_word top ≡ true → set_design_top_at (top ∷ end_token ∷ rest) ≡ Some (SetDesignTop top, rest)
+unfolding set_design_top_at
+set_design_top_again top rest h = rw (word_again top (end_token ∷ rest) h, behind_again end_token rest) refl
+
+create_power_domain_again : (name : List ℕ) (rest : List (List ℕ)) → is_word name ≡ true → create_power_domain_at (name ∷ codes "-include_scope" ∷ end_token ∷ rest) ≡ Some (CreatePowerDomain name, rest)
+unfolding create_power_domain_at
+create_power_domain_again name rest h = rw (word_again name (codes "-include_scope" ∷ end_token ∷ rest) h, behind_again (codes "-include_scope") (end_token ∷ rest), behind_again end_token rest) refl
+
+create_supply_port_again : (name : List ℕ) (rest : List (List ℕ)) → is_word name ≡ true → create_supply_port_at (name ∷ codes "-direction" ∷ codes "in" ∷ end_token ∷ rest) ≡ Some (CreateSupplyPort name, rest)
+unfolding create_supply_port_at
+create_supply_port_again name rest h = rw (word_again name (codes "-direction" ∷ codes "in" ∷ end_token ∷ rest) h, behind_again (codes "-direction") (codes "in" ∷ end_token ∷ rest), behind_again (codes "in") (end_token ∷ rest), behind_again end_token rest) refl
+
+create_supply_net_again : (name domain : List ℕ) (rest : List (List ℕ)) → is_word name ≡ true → is_word domain ≡ true → create_supply_net_at (name ∷ codes "-domain" ∷ domain ∷ end_token ∷ rest) ≡ Some (CreateSupplyNet name domain, rest)
+unfolding create_supply_net_at
+create_supply_net_again name domain rest h k = rw (word_again name (codes "-domain" ∷ domain ∷ end_token ∷ rest) h, option_again (codes "-domain") domain (end_token ∷ rest) k, behind_again end_token rest) refl
+
+connect_supply_net_again : (net port : List ℕ) (ports rest : List (List ℕ)) → is_word net ≡ true → is_word port ≡ true → IsListed ports (port ∷ []) → connect_supply_net_at ((net ∷ codes "-ports" ∷ ports) ++ end_token ∷ rest) ≡ Some (ConnectSupplyNet net port, rest)
+unfolding connect_supply_net_at
+connect_supply_net_again net port ports rest h k l = rw (word_again net (codes "-ports" ∷ ports ++ end_token ∷ rest) h, behind_again (codes "-ports") (ports ++ end_token ∷ rest), one_listed_again ports port (end_token ∷ rest) l k, behind_again end_token rest) refl
+
+power_first_again : (power_net ground_net : List ℕ) (rest : List (List ℕ)) → is_word power_net ≡ true → is_word ground_net ≡ true → primaries_at (codes "-primary_power_net" ∷ power_net ∷ codes "-primary_ground_net" ∷ ground_net ∷ rest) ≡ Some (power_net, ground_net, rest)
+unfolding primaries_at power_first_at
+power_first_again power_net ground_net rest h k = rw (option_again (codes "-primary_power_net") power_net (codes "-primary_ground_net" ∷ ground_net ∷ rest) h, option_again (codes "-primary_ground_net") ground_net rest k) refl
+
+ground_first_again : (power_net ground_net : List ℕ) (rest : List (List ℕ)) → is_word power_net ≡ true → is_word ground_net ≡ true → primaries_at (codes "-primary_ground_net" ∷ ground_net ∷ codes "-primary_power_net" ∷ power_net ∷ rest) ≡ Some (power_net, ground_net, rest)
+unfolding primaries_at ground_first_at
+ground_first_again power_net ground_net rest h k = rw (option_again (codes "-primary_ground_net") ground_net (codes "-primary_power_net" ∷ power_net ∷ rest) k, option_again (codes "-primary_power_net") power_net rest h) refl
+
+primaries_again : (options : List (List ℕ)) (power_net ground_net : List ℕ) (rest : List (List ℕ)) → is_word power_net ≡ true → is_word ground_net ≡ true → IsEitherOrder options (codes "-primary_power_net" ∷ power_net ∷ []) (codes "-primary_ground_net" ∷ ground_net ∷ []) → primaries_at (options ++ rest) ≡ Some (power_net, ground_net, rest)
+primaries_again options power_net ground_net rest h k (inl e) = ap (λ (t : List (List ℕ)). primaries_at (t ++ rest)) e ∙ power_first_again power_net ground_net rest h k
+primaries_again options power_net ground_net rest h k (inr e) = ap (λ (t : List (List ℕ)). primaries_at (t ++ rest)) e ∙ ground_first_again power_net ground_net rest h k
+
+set_domain_supply_net_again : (domain power_net ground_net : List ℕ) (options rest : List (List ℕ)) → is_word domain ≡ true → is_word power_net ≡ true → is_word ground_net ≡ true → IsEitherOrder options (codes "-primary_power_net" ∷ power_net ∷ []) (codes "-primary_ground_net" ∷ ground_net ∷ []) → set_domain_supply_net_at (domain ∷ options ++ end_token ∷ rest) ≡ Some (SetDomainSupplyNet domain power_net ground_net, rest)
+unfolding set_domain_supply_net_at
+set_domain_supply_net_again domain power_net ground_net options rest h p g o = rw (word_again domain (options ++ end_token ∷ rest) h, primaries_again options power_net ground_net (end_token ∷ rest) p g o, behind_again end_token rest) refl
+
+add_port_state_again : (port : List ℕ) (states : List PortState) (rest : List (List ℕ)) → is_word port ≡ true → list_all is_word (flat_map state_words states) ≡ true → list_all is_state states ≡ true → add_port_state_at (port ∷ flat_map state_tokens states ++ end_token ∷ rest) ≡ Some (AddPortState port states, rest)
+unfolding add_port_state_at
+add_port_state_again port states rest h w s = rw (word_again port (flat_map state_tokens states ++ end_token ∷ rest) h, states_again states (end_token ∷ rest) w s refl, behind_again end_token rest) refl
+
+create_pst_again : (name : List ℕ) (supplies columns rest : List (List ℕ)) → is_word name ≡ true → list_all is_word supplies ≡ true → IsListed columns supplies → create_pst_at ((name ∷ codes "-supplies" ∷ columns) ++ end_token ∷ rest) ≡ Some (CreatePst name supplies, rest)
+unfolding create_pst_at
+create_pst_again name supplies columns rest h k l = rw (word_again name (codes "-supplies" ∷ columns ++ end_token ∷ rest) h, behind_again (codes "-supplies") (columns ++ end_token ∷ rest), listed_again columns supplies (end_token ∷ rest) l k, behind_again end_token rest) refl
+
+table_first_again : (table : List ℕ) (states columns rest : List (List ℕ)) → is_word table ≡ true → list_all is_word states ≡ true → IsListed columns states → row_at (codes "-pst" ∷ table ∷ codes "-state" ∷ columns ++ rest) ≡ Some (table, states, rest)
+unfolding row_at table_first_at
+table_first_again table states columns rest h k l = rw (option_again (codes "-pst") table (codes "-state" ∷ columns ++ rest) h, behind_again (codes "-state") (columns ++ rest), listed_again columns states rest l k) refl
+
+states_first_again : (table : List ℕ) (states columns rest : List (List ℕ)) → is_word table ≡ true → list_all is_word states ≡ true → IsListed columns states → row_at (codes "-state" ∷ columns ++ codes "-pst" ∷ table ∷ rest) ≡ Some (table, states, rest)
+unfolding row_at states_first_at
+states_first_again table states columns rest h k l = rw (behind_again (codes "-state") (columns ++ codes "-pst" ∷ table ∷ rest), listed_again columns states (codes "-pst" ∷ table ∷ rest) l k, option_again (codes "-pst") table rest h) refl
+
+row_again : (options : List (List ℕ)) (table : List ℕ) (states columns rest : List (List ℕ)) → is_word table ≡ true → list_all is_word states ≡ true → IsListed columns states → IsEitherOrder options (codes "-pst" ∷ table ∷ []) (codes "-state" ∷ columns) → row_at (options ++ rest) ≡ Some (table, states, rest)
+row_again options table states columns rest h k l (inl e) = ap (λ (t : List (List ℕ)). row_at (t ++ rest)) e ∙ table_first_again table states columns rest h k l
+row_again options table states columns rest h k l (inr e) =
+    ap (λ (t : List (List ℕ)). row_at (t ++ rest)) e
+    ∙ ap (λ (t : List (List ℕ)). row_at (codes "-state" ∷ t)) (append_assoc columns (codes "-pst" ∷ table ∷ []) rest)
+    ∙ states_first_again table states columns rest h k l
+
+add_pst_state_again : (name table : List ℕ) (states columns options rest : List (List ℕ)) → is_word name ≡ true → is_word table ≡ true → list_all is_word states ≡ true → IsListed columns states → IsEitherOrder options (codes "-pst" ∷ table ∷ []) (codes "-state" ∷ columns) → add_pst_state_at (name ∷ options ++ end_token ∷ rest) ≡ Some (AddPstState name table states, rest)
+unfolding add_pst_state_at
+add_pst_state_again name table states columns options rest h t k l o = rw (word_again name (options ++ end_token ∷ rest) h, row_again options table states columns (end_token ∷ rest) t k l o, behind_again end_token rest) refl
+
+pub command_again : (line : List (List ℕ)) (command : Command) (rest : List (List ℕ)) → IsCommand line command → list_all is_word (command_words command) ≡ true → has_states command ≡ true → command_at (line ++ end_token ∷ rest) ≡ Some (command, rest)
+unfolding command_at command_named
+command_again line (SetDesignTop top) rest e w s =
+    let a = both_true (is_word top) true w in
+    ap (λ (t : List (List ℕ)). command_at (t ++ end_token ∷ rest)) e ∙ set_design_top_again top rest a.0
+command_again line (CreatePowerDomain name) rest e w s =
+    let a = both_true (is_word name) true w in
+    ap (λ (t : List (List ℕ)). command_at (t ++ end_token ∷ rest)) e ∙ create_power_domain_again name rest a.0
+command_again line (CreateSupplyPort name) rest e w s =
+    let a = both_true (is_word name) true w in
+    ap (λ (t : List (List ℕ)). command_at (t ++ end_token ∷ rest)) e ∙ create_supply_port_again name rest a.0
+command_again line (CreateSupplyNet name domain) rest e w s =
+    let a = both_true (is_word name) (list_all is_word (domain ∷ [])) w in
+    let b = both_true (is_word domain) true a.1 in
+    ap (λ (t : List (List ℕ)). command_at (t ++ end_token ∷ rest)) e ∙ create_supply_net_again name domain rest a.0 b.0
+command_again line (ConnectSupplyNet net port) rest (ports, e, l) w s =
+    let a = both_true (is_word net) (list_all is_word (port ∷ [])) w in
+    let b = both_true (is_word port) true a.1 in
+    ap (λ (t : List (List ℕ)). command_at (t ++ end_token ∷ rest)) e ∙ connect_supply_net_again net port ports rest a.0 b.0 l
+command_again line (SetDomainSupplyNet domain power_net ground_net) rest (options, e, o) w s =
+    let a = both_true (is_word domain) (list_all is_word (power_net ∷ ground_net ∷ [])) w in
+    let b = both_true (is_word power_net) (list_all is_word (ground_net ∷ [])) a.1 in
+    let c = both_true (is_word ground_net) true b.1 in
+    ap (λ (t : List (List ℕ)). command_at (t ++ end_token ∷ rest)) e ∙ set_domain_supply_net_again domain power_net ground_net options rest a.0 b.0 c.0 o
+command_again line (AddPortState port states) rest e w s =
+    let a = both_true (is_word port) (list_all is_word (flat_map state_words states)) w in
+    ap (λ (t : List (List ℕ)). command_at (t ++ end_token ∷ rest)) e ∙ add_port_state_again port states rest a.0 a.1 s
+command_again line (CreatePst name supplies) rest (columns, e, l) w s =
+    let a = both_true (is_word name) (list_all is_word supplies) w in
+    ap (λ (t : List (List ℕ)). command_at (t ++ end_token ∷ rest)) e ∙ create_pst_again name supplies columns rest a.0 a.1 l
+command_again line (AddPstState name table states) rest (columns, options, e, o, l) w s =
+    let a = both_true (is_word name) (list_all is_word (table ∷ states)) w in
+    let b = both_true (is_word table) (list_all is_word states) a.1 in
+    ap (λ (t : List (List ℕ)). command_at (t ++ end_token ∷ rest)) e ∙ add_pst_state_again name table states columns options rest a.0 b.0 b.1 l o

@@ -21,7 +21,7 @@ nothing_there : (x : Command × List (List ℕ)) → command_at [] ≡ Some x �
 unfolding command_at
 nothing_there x e = cc
 
-after_command : (rest : List (List ℕ)) (x : Command × List (List ℕ)) → command_at rest ≡ Some x → (cs : List Command) → AreRead rest cs → (more : List Command) × (cs ≡ x.0 ∷ more) × AreRead x.1 more
+pub after_command : (rest : List (List ℕ)) (x : Command × List (List ℕ)) → command_at rest ≡ Some x → (cs : List Command) → AreRead rest cs → (more : List Command) × (cs ≡ x.0 ∷ more) × AreRead x.1 more
 after_command rest x e [] h = absurd (nothing_there x (sym (ap command_at h) ∙ e))
 after_command rest x e (c ∷ cs) (r, f, h) =
     let own : Command × List (List ℕ) = (c, r) in
@@ -37,7 +37,7 @@ upto_next tokens done rest x e u = record {
       (m.0, k.1 ∙ ap (λ (cs : List Command). done ++ cs) m.1 ∙ sym (append_assoc done (x.0 ∷ []) m.0), m.2);
 }
 
-nothing_more : (cs : List Command) → AreRead [] cs → cs ≡ []
+pub nothing_more : (cs : List Command) → AreRead [] cs → cs ≡ []
 nothing_more [] h = refl
 nothing_more (c ∷ cs) (r, f, h) = absurd (nothing_there (c, r) f)
 

@@ -97,7 +97,7 @@ unfolding states_at states_within
 states_none [] h = refl
 states_none (t ∷ ts) h = rw h refl
 
-and_true : (a b : Bool) → a ≡ true → b ≡ true → (a && b) ≡ true
+pub and_true : (a b : Bool) → a ≡ true → b ≡ true → (a && b) ≡ true
 and_true a b h k = rw (h, k) refl
 
 abbrev AreTaken : List (List ℕ) → List PortState × List (List ℕ) → Type 0
