@@ -1,13 +1,15 @@
 -- A UPF text spells the commands that are read from its tokens, and no others.
-use Rattle.std.proofs.Common.{◌≡◌, ℕ, ◌≤◌, Bool, true, false, ◌&&◌, List, [], ◌∷◌, ◌++◌, length, Option, Some, refl, sym, ap, subst, ◌∙◌, append_assoc}
+use Rattle.std.proofs.Common.{◌≡◌, ℕ, ◌≤◌, Bool, true, false, ◌&&◌, List, [], ◌∷◌, ◌++◌, length, Option, Some, Result, Ok, Err, IfOk, refl, sym, ap, subst, ◌∙◌, append_assoc}
 use Rattle.std.specs.List.{list_all, flat_map, AllZip}
 use Rattle.std.proofs.lemmas.List.Folds.{list_all-append}
 use Rattle.pe_base.specs.Walk.{IsCut}
 use Rattle.pe_base.proofs.Walks.{one_cut}
+use Rattle.pe_tool.specs.declared.fault.FormFault.{FormFault}
+use Rattle.pe_tool.specs.declared.fault.FormFault.TheVariants.{Memory, NotBuilt}
 use Rattle.pe_tool.specs.declared.upf.Command.{Command}
 use Rattle.pe_tool.specs.UpfTokens.{is_word, end_token, upf_start, next_command}
-use Rattle.pe_tool.specs.Upf.{IsCommand, command_words, has_states, ended, IsUpf}
-use Rattle.pe_tool.specs.UpfReading.{command_at, AreRead}
+use Rattle.pe_tool.specs.Upf.{IsCommand, command_words, has_states, ended, IsUpf, IsUpfAnswer}
+use Rattle.pe_tool.specs.UpfReading.{IsTokensAnswer, command_at, AreRead}
 use Rattle.pe_tool.proofs.UpfWords.{both_true}
 use Rattle.pe_tool.proofs.UpfStates.{and_true}
 use Rattle.pe_tool.proofs.UpfCommands.{Line, command_takes, command_again}
@@ -72,3 +74,20 @@ pub once : (text : List ℕ) (cs ds : List Command) → IsUpf text cs → IsUpf 
 once text cs ds u v =
     let same = one_cut upf_start (next_command false (text ++ end_token)) (ended v.lines) (ended u.lines) refl v.spelled u.spelled in
     read_once (ended u.lines) cs ds (upf_read text cs u) (subst (λ (t : List (List ℕ)). AreRead t ds) same (upf_read text ds v))
+
+-- ---- what the reader answers
+
+pub answer_found : (answer : Result (List Command) FormFault) (text : List ℕ) (tokens : List (List ℕ)) → length text ≤ 16777216 → IsCut upf_start (next_command false (text ++ end_token)) tokens → IfOk answer (λ cs. AreRead tokens cs)
+    → IfOk answer (λ cs. IsUpf text cs)
+answer_found (Ok cs) text tokens short cut h = upf_found text tokens cs short cut h
+answer_found (Err e) text tokens short cut h = tt
+
+pub answer_only : (answer : Result (List Command) FormFault) (text : List ℕ) (tokens : List (List ℕ)) → IsCut upf_start (next_command false (text ++ end_token)) tokens
+    → ((cs : List Command) → AreRead tokens cs → IsUpfAnswer cs answer) → (cs : List Command) → IsUpf text cs → IsUpfAnswer cs answer
+answer_only answer text tokens cut only cs u =
+    let same = one_cut upf_start (next_command false (text ++ end_token)) (ended u.lines) tokens refl u.spelled cut in
+    only cs (subst (λ (t : List (List ℕ)). AreRead t cs) same (upf_read text cs u))
+
+pub answer_fails : (e : FormFault) (text : List ℕ) → ((ts : List (List ℕ)) → IsCut upf_start (next_command false (text ++ end_token)) ts → IsTokensAnswer ts (Err e)) → (cs : List Command) → IsUpf text cs → IsUpfAnswer cs (Err e)
+answer_fails Memory text only cs u = tt
+answer_fails NotBuilt text only cs u = only (ended u.lines) u.spelled

@@ -5,7 +5,8 @@ use Rattle.pe_tool.specs.declared.fault.FormFault.{FormFault}
 use Rattle.pe_tool.specs.declared.fault.FormFault.TheVariants.{Memory, NotBuilt}
 use Rattle.pe_tool.specs.declared.upf.Command.{Command}
 use Rattle.pe_tool.specs.UpfTokens.{end_token}
-use Rattle.pe_tool.specs.UpfReading.{Fails, command_at, AreRead, IsCommandsAnswer}
+use Rattle.pe_tool.specs.Upf.{IsUpfAnswer}
+use Rattle.pe_tool.specs.UpfReading.{Fails, command_at, AreRead}
 use Rattle.pe_tool.proofs.UpfWords.{some_is}
 use Rattle.pe_tool.proofs.UpfCommands.{Line, command_takes}
 
@@ -52,11 +53,14 @@ upto_only tokens done rest e u cs h =
     let k = (upto_end tokens done rest e u).only cs h in
     sym (k.1 ∙ ap (λ (more : List Command). done ++ more) (nothing_more k.0 k.2) ∙ append-nil done)
 
+nothing_read : (x : Command × List (List ℕ)) → None ≡ Some x → ⊥
+nothing_read x e = cc
+
 not_read : (rest : List (List ℕ)) (cs : List Command) → rest ≢ [] → command_at rest ≡ None → AreRead rest cs → ⊥
 not_read rest [] n e h = n h
-not_read rest (c ∷ cs) n e (r, f, h) = let x : None ≡ Some (c, r) = sym e ∙ f in cc
+not_read rest (c ∷ cs) n e (r, f, h) = nothing_read (c, r) (sym e ∙ f)
 
-pub upto_fails : (e : FormFault) (tokens : List (List ℕ)) (done : List Command) (rest : List (List ℕ)) → rest ≢ [] → Fails e (command_at rest) → Upto tokens done rest → (cs : List Command) → AreRead tokens cs → IsCommandsAnswer cs (Err e)
+pub upto_fails : (e : FormFault) (tokens : List (List ℕ)) (done : List Command) (rest : List (List ℕ)) → rest ≢ [] → Fails e (command_at rest) → Upto tokens done rest → (cs : List Command) → AreRead tokens cs → IsUpfAnswer cs (Err e)
 upto_fails Memory tokens done rest n e u cs h = tt
 upto_fails NotBuilt tokens done rest n e u cs h = let k = u.only cs h in not_read rest k.0 n e k.2
 

@@ -253,9 +253,3 @@ command_at (name ∷ rest) = command_named name rest
 abbrev pub AreRead : List (List ℕ) → List Command → Type 0
 AreRead tokens [] = tokens ≡ []
 AreRead tokens (c ∷ cs) = (rest : List (List ℕ)) × (command_at tokens ≡ Some (c, rest)) × AreRead rest cs
-
--- the answer is these commands, unless memory ran out
-abbrev pub IsCommandsAnswer : List Command → Result (List Command) FormFault → Type 0
-IsCommandsAnswer commands (Ok others) = others ≡ commands
-IsCommandsAnswer commands (Err Memory) = Unit {0}
-IsCommandsAnswer commands (Err NotBuilt) = ⊥

@@ -2,7 +2,8 @@
 
 ghost use Rattle.std.specs.Prelude.{◌≡◌, IfOk, List};
 ghost use Rattle.pe_tool.specs.declared.upf.Command.{Command};
-ghost use Rattle.pe_tool.specs.UpfReading.{Gives, state_at, states_at, set_design_top_at, create_power_domain_at, create_supply_port_at, create_supply_net_at, connect_supply_net_at, power_first_at, ground_first_at, primaries_at, set_domain_supply_net_at, add_port_state_at, create_pst_at, table_first_at, states_first_at, row_at, add_pst_state_at, command_named, command_at, AreRead, IsCommandsAnswer};
+ghost use Rattle.pe_tool.specs.UpfReading.{Gives, state_at, states_at, set_design_top_at, create_power_domain_at, create_supply_port_at, create_supply_net_at, connect_supply_net_at, power_first_at, ground_first_at, primaries_at, set_domain_supply_net_at, add_port_state_at, create_pst_at, table_first_at, states_first_at, row_at, add_pst_state_at, command_named, command_at, AreRead};
+ghost use Rattle.pe_tool.specs.Upf.{IsUpfAnswer};
 
 use super::lexer::END;
 use super::words::{begins, behind, listed, one_listed, option, word, words};
@@ -265,7 +266,7 @@ fn command(alloc: Global, tokens: &[Name]) -> Result<(Command, &[Name]), FormFau
 /// The commands that the tokens spell, each with the token that ends it.
 pub fn commands(alloc: Global, tokens: &[Name]) -> Result<Items<Command>, FormFault>
     ensures found { IfOk result (λ cs. AreRead tokens.now cs) }
-    ensures only { (cs : List Command) → AreRead tokens.now cs → IsCommandsAnswer cs result }
+    ensures only { (cs : List Command) → AreRead tokens.now cs → IsUpfAnswer cs result }
 {
     let mut commands = Items::new(alloc);
     let mut rest = tokens;
