@@ -9,7 +9,7 @@ use Rattle.pe_tool.specs.declared.upf.Command.TheVariants.{SetDesignTop, CreateP
 use Rattle.pe_tool.specs.UpfTokens.{is_word, end_token}
 use Rattle.pe_tool.specs.Upf.{braced, state_tokens, state_words, is_state, IsListed, IsEitherOrder, IsCommand, command_words, has_states}
 use Rattle.pe_tool.specs.UpfReading.{◌>>=◌, begins, behind, word_at, option_at, listed_at, one_listed_at, states_at, set_design_top_at, create_power_domain_at, create_supply_port_at, create_supply_net_at, connect_supply_net_at, power_first_at, ground_first_at, primaries_at, set_domain_supply_net_at, add_port_state_at, create_pst_at, table_first_at, states_first_at, row_at, add_pst_state_at, command_named, command_at}
-use Rattle.pe_tool.proofs.UpfWords.{Step, read, step, some_is, follow, Which, then, else, which, both_true, same_bytes, behind_takes, behind_again, word_takes, word_again, option_takes, option_again, Listed, listed_takes, listed_again, one_listed_takes, one_listed_again}
+use Rattle.pe_tool.proofs.UpfWords.{Step, went, step, some_is, follow, Which, then, else, which, both_true, same_bytes, behind_takes, behind_again, word_takes, word_again, option_takes, option_again, Listed, listed_takes, listed_again, one_listed_takes, one_listed_again}
 use Rattle.pe_tool.proofs.UpfStates.{states_take, states_again}
 
 -- a command, between the tokens before and the rest
@@ -36,8 +36,8 @@ splice front e f = e ∙ ap (λ (t : List (List ℕ)). front ++ t) f
 set_design_top_takes : (tokens : List (List ℕ)) (x : Command × List (List ℕ)) → set_design_top_at tokens ≡ Some x → IsLine (codes "set_design_top" ∷ tokens) x
 unfolding set_design_top_at
 set_design_top_takes tokens x e =
-    elim (step (word_at tokens) (λ top. behind end_token top.1 >>= λ rest. Some (SetDesignTop top.0, rest)) x e) [ read top h0 k0 ↦
-    elim (step (behind end_token top.1) (λ rest. Some (SetDesignTop top.0, rest)) x k0) [ read rest h1 k1 ↦
+    elim (step (word_at tokens) (λ top. behind end_token top.1 >>= λ rest. Some (SetDesignTop top.0, rest)) x e) [ went top h0 k0 ↦
+    elim (step (behind end_token top.1) (λ rest. Some (SetDesignTop top.0, rest)) x k0) [ went rest h1 k1 ↦
     let w0 = word_takes tokens top h0 in
     let made : Command × List (List ℕ) = (SetDesignTop top.0, rest) in
     subst (IsLine (codes "set_design_top" ∷ tokens)) (some_is made x k1) (record {
@@ -52,9 +52,9 @@ set_design_top_takes tokens x e =
 create_power_domain_takes : (tokens : List (List ℕ)) (x : Command × List (List ℕ)) → create_power_domain_at tokens ≡ Some x → IsLine (codes "create_power_domain" ∷ tokens) x
 unfolding create_power_domain_at
 create_power_domain_takes tokens x e =
-    elim (step (word_at tokens) (λ name. behind (codes "-include_scope") name.1 >>= λ after. behind end_token after >>= λ rest. Some (CreatePowerDomain name.0, rest)) x e) [ read name h0 k0 ↦
-    elim (step (behind (codes "-include_scope") name.1) (λ after. behind end_token after >>= λ rest. Some (CreatePowerDomain name.0, rest)) x k0) [ read after h1 k1 ↦
-    elim (step (behind end_token after) (λ rest. Some (CreatePowerDomain name.0, rest)) x k1) [ read rest h2 k2 ↦
+    elim (step (word_at tokens) (λ name. behind (codes "-include_scope") name.1 >>= λ after. behind end_token after >>= λ rest. Some (CreatePowerDomain name.0, rest)) x e) [ went name h0 k0 ↦
+    elim (step (behind (codes "-include_scope") name.1) (λ after. behind end_token after >>= λ rest. Some (CreatePowerDomain name.0, rest)) x k0) [ went after h1 k1 ↦
+    elim (step (behind end_token after) (λ rest. Some (CreatePowerDomain name.0, rest)) x k1) [ went rest h2 k2 ↦
     let w0 = word_takes tokens name h0 in
     let made : Command × List (List ℕ) = (CreatePowerDomain name.0, rest) in
     subst (IsLine (codes "create_power_domain" ∷ tokens)) (some_is made x k2) (record {
@@ -69,10 +69,10 @@ create_power_domain_takes tokens x e =
 create_supply_port_takes : (tokens : List (List ℕ)) (x : Command × List (List ℕ)) → create_supply_port_at tokens ≡ Some x → IsLine (codes "create_supply_port" ∷ tokens) x
 unfolding create_supply_port_at
 create_supply_port_takes tokens x e =
-    elim (step (word_at tokens) (λ name. behind (codes "-direction") name.1 >>= λ direction. behind (codes "in") direction >>= λ after. behind end_token after >>= λ rest. Some (CreateSupplyPort name.0, rest)) x e) [ read name h0 k0 ↦
-    elim (step (behind (codes "-direction") name.1) (λ direction. behind (codes "in") direction >>= λ after. behind end_token after >>= λ rest. Some (CreateSupplyPort name.0, rest)) x k0) [ read direction h1 k1 ↦
-    elim (step (behind (codes "in") direction) (λ after. behind end_token after >>= λ rest. Some (CreateSupplyPort name.0, rest)) x k1) [ read after h2 k2 ↦
-    elim (step (behind end_token after) (λ rest. Some (CreateSupplyPort name.0, rest)) x k2) [ read rest h3 k3 ↦
+    elim (step (word_at tokens) (λ name. behind (codes "-direction") name.1 >>= λ direction. behind (codes "in") direction >>= λ after. behind end_token after >>= λ rest. Some (CreateSupplyPort name.0, rest)) x e) [ went name h0 k0 ↦
+    elim (step (behind (codes "-direction") name.1) (λ direction. behind (codes "in") direction >>= λ after. behind end_token after >>= λ rest. Some (CreateSupplyPort name.0, rest)) x k0) [ went direction h1 k1 ↦
+    elim (step (behind (codes "in") direction) (λ after. behind end_token after >>= λ rest. Some (CreateSupplyPort name.0, rest)) x k1) [ went after h2 k2 ↦
+    elim (step (behind end_token after) (λ rest. Some (CreateSupplyPort name.0, rest)) x k2) [ went rest h3 k3 ↦
     let w0 = word_takes tokens name h0 in
     let made : Command × List (List ℕ) = (CreateSupplyPort name.0, rest) in
     subst (IsLine (codes "create_supply_port" ∷ tokens)) (some_is made x k3) (record {
@@ -87,9 +87,9 @@ create_supply_port_takes tokens x e =
 create_supply_net_takes : (tokens : List (List ℕ)) (x : Command × List (List ℕ)) → create_supply_net_at tokens ≡ Some x → IsLine (codes "create_supply_net" ∷ tokens) x
 unfolding create_supply_net_at
 create_supply_net_takes tokens x e =
-    elim (step (word_at tokens) (λ name. option_at (codes "-domain") name.1 >>= λ domain. behind end_token domain.1 >>= λ rest. Some (CreateSupplyNet name.0 domain.0, rest)) x e) [ read name h0 k0 ↦
-    elim (step (option_at (codes "-domain") name.1) (λ domain. behind end_token domain.1 >>= λ rest. Some (CreateSupplyNet name.0 domain.0, rest)) x k0) [ read domain h1 k1 ↦
-    elim (step (behind end_token domain.1) (λ rest. Some (CreateSupplyNet name.0 domain.0, rest)) x k1) [ read rest h2 k2 ↦
+    elim (step (word_at tokens) (λ name. option_at (codes "-domain") name.1 >>= λ domain. behind end_token domain.1 >>= λ rest. Some (CreateSupplyNet name.0 domain.0, rest)) x e) [ went name h0 k0 ↦
+    elim (step (option_at (codes "-domain") name.1) (λ domain. behind end_token domain.1 >>= λ rest. Some (CreateSupplyNet name.0 domain.0, rest)) x k0) [ went domain h1 k1 ↦
+    elim (step (behind end_token domain.1) (λ rest. Some (CreateSupplyNet name.0 domain.0, rest)) x k1) [ went rest h2 k2 ↦
     let w0 = word_takes tokens name h0 in
     let w1 = option_takes (codes "-domain") name.1 domain h1 in
     let made : Command × List (List ℕ) = (CreateSupplyNet name.0 domain.0, rest) in
@@ -105,10 +105,10 @@ create_supply_net_takes tokens x e =
 connect_supply_net_takes : (tokens : List (List ℕ)) (x : Command × List (List ℕ)) → connect_supply_net_at tokens ≡ Some x → IsLine (codes "connect_supply_net" ∷ tokens) x
 unfolding connect_supply_net_at
 connect_supply_net_takes tokens x e =
-    elim (step (word_at tokens) (λ net. behind (codes "-ports") net.1 >>= λ ports. one_listed_at ports >>= λ port. behind end_token port.1 >>= λ rest. Some (ConnectSupplyNet net.0 port.0, rest)) x e) [ read net h0 k0 ↦
-    elim (step (behind (codes "-ports") net.1) (λ ports. one_listed_at ports >>= λ port. behind end_token port.1 >>= λ rest. Some (ConnectSupplyNet net.0 port.0, rest)) x k0) [ read ports h1 k1 ↦
-    elim (step (one_listed_at ports) (λ port. behind end_token port.1 >>= λ rest. Some (ConnectSupplyNet net.0 port.0, rest)) x k1) [ read port h2 k2 ↦
-    elim (step (behind end_token port.1) (λ rest. Some (ConnectSupplyNet net.0 port.0, rest)) x k2) [ read rest h3 k3 ↦
+    elim (step (word_at tokens) (λ net. behind (codes "-ports") net.1 >>= λ ports. one_listed_at ports >>= λ port. behind end_token port.1 >>= λ rest. Some (ConnectSupplyNet net.0 port.0, rest)) x e) [ went net h0 k0 ↦
+    elim (step (behind (codes "-ports") net.1) (λ ports. one_listed_at ports >>= λ port. behind end_token port.1 >>= λ rest. Some (ConnectSupplyNet net.0 port.0, rest)) x k0) [ went ports h1 k1 ↦
+    elim (step (one_listed_at ports) (λ port. behind end_token port.1 >>= λ rest. Some (ConnectSupplyNet net.0 port.0, rest)) x k1) [ went port h2 k2 ↦
+    elim (step (behind end_token port.1) (λ rest. Some (ConnectSupplyNet net.0 port.0, rest)) x k2) [ went rest h3 k3 ↦
     let w0 = word_takes tokens net h0 in
     let list = one_listed_takes ports port h2 in
     let made : Command × List (List ℕ) = (ConnectSupplyNet net.0 port.0, rest) in
@@ -135,8 +135,8 @@ ArePrimaries tokens x = Primaries tokens x.0 x.1 x.2
 power_first_takes : (tokens : List (List ℕ)) (x : List ℕ × List ℕ × List (List ℕ)) → power_first_at tokens ≡ Some x → ArePrimaries tokens x
 unfolding power_first_at
 power_first_takes tokens x e =
-    elim (step (option_at (codes "-primary_power_net") tokens) (λ power. option_at (codes "-primary_ground_net") power.1 >>= λ grounded. Some (power.0, grounded.0, grounded.1)) x e) [ read power h0 k0 ↦
-    elim (step (option_at (codes "-primary_ground_net") power.1) (λ grounded. Some (power.0, grounded.0, grounded.1)) x k0) [ read grounded h1 k1 ↦
+    elim (step (option_at (codes "-primary_power_net") tokens) (λ power. option_at (codes "-primary_ground_net") power.1 >>= λ grounded. Some (power.0, grounded.0, grounded.1)) x e) [ went power h0 k0 ↦
+    elim (step (option_at (codes "-primary_ground_net") power.1) (λ grounded. Some (power.0, grounded.0, grounded.1)) x k0) [ went grounded h1 k1 ↦
     let w0 = option_takes (codes "-primary_power_net") tokens power h0 in
     let w1 = option_takes (codes "-primary_ground_net") power.1 grounded h1 in
     let made : List ℕ × List ℕ × List (List ℕ) = (power.0, grounded.0, grounded.1) in
@@ -152,8 +152,8 @@ power_first_takes tokens x e =
 ground_first_takes : (tokens : List (List ℕ)) (x : List ℕ × List ℕ × List (List ℕ)) → ground_first_at tokens ≡ Some x → ArePrimaries tokens x
 unfolding ground_first_at
 ground_first_takes tokens x e =
-    elim (step (option_at (codes "-primary_ground_net") tokens) (λ grounded. option_at (codes "-primary_power_net") grounded.1 >>= λ power. Some (power.0, grounded.0, power.1)) x e) [ read grounded h0 k0 ↦
-    elim (step (option_at (codes "-primary_power_net") grounded.1) (λ power. Some (power.0, grounded.0, power.1)) x k0) [ read power h1 k1 ↦
+    elim (step (option_at (codes "-primary_ground_net") tokens) (λ grounded. option_at (codes "-primary_power_net") grounded.1 >>= λ power. Some (power.0, grounded.0, power.1)) x e) [ went grounded h0 k0 ↦
+    elim (step (option_at (codes "-primary_power_net") grounded.1) (λ power. Some (power.0, grounded.0, power.1)) x k0) [ went power h1 k1 ↦
     let w0 = option_takes (codes "-primary_ground_net") tokens grounded h0 in
     let w1 = option_takes (codes "-primary_power_net") grounded.1 power h1 in
     let made : List ℕ × List ℕ × List (List ℕ) = (power.0, grounded.0, power.1) in
@@ -177,9 +177,9 @@ primaries_take tokens x e =
 set_domain_supply_net_takes : (tokens : List (List ℕ)) (x : Command × List (List ℕ)) → set_domain_supply_net_at tokens ≡ Some x → IsLine (codes "set_domain_supply_net" ∷ tokens) x
 unfolding set_domain_supply_net_at
 set_domain_supply_net_takes tokens x e =
-    elim (step (word_at tokens) (λ domain. primaries_at domain.1 >>= λ nets. behind end_token nets.2 >>= λ rest. Some (SetDomainSupplyNet domain.0 nets.0 nets.1, rest)) x e) [ read domain h0 k0 ↦
-    elim (step (primaries_at domain.1) (λ nets. behind end_token nets.2 >>= λ rest. Some (SetDomainSupplyNet domain.0 nets.0 nets.1, rest)) x k0) [ read nets h1 k1 ↦
-    elim (step (behind end_token nets.2) (λ rest. Some (SetDomainSupplyNet domain.0 nets.0 nets.1, rest)) x k1) [ read rest h2 k2 ↦
+    elim (step (word_at tokens) (λ domain. primaries_at domain.1 >>= λ nets. behind end_token nets.2 >>= λ rest. Some (SetDomainSupplyNet domain.0 nets.0 nets.1, rest)) x e) [ went domain h0 k0 ↦
+    elim (step (primaries_at domain.1) (λ nets. behind end_token nets.2 >>= λ rest. Some (SetDomainSupplyNet domain.0 nets.0 nets.1, rest)) x k0) [ went nets h1 k1 ↦
+    elim (step (behind end_token nets.2) (λ rest. Some (SetDomainSupplyNet domain.0 nets.0 nets.1, rest)) x k1) [ went rest h2 k2 ↦
     let w0 = word_takes tokens domain h0 in
     let list = primaries_take domain.1 nets h1 in
     let made : Command × List (List ℕ) = (SetDomainSupplyNet domain.0 nets.0 nets.1, rest) in
@@ -195,9 +195,9 @@ set_domain_supply_net_takes tokens x e =
 add_port_state_takes : (tokens : List (List ℕ)) (x : Command × List (List ℕ)) → add_port_state_at tokens ≡ Some x → IsLine (codes "add_port_state" ∷ tokens) x
 unfolding add_port_state_at
 add_port_state_takes tokens x e =
-    elim (step (word_at tokens) (λ port. states_at port.1 >>= λ states. behind end_token states.1 >>= λ rest. Some (AddPortState port.0 states.0, rest)) x e) [ read port h0 k0 ↦
-    elim (step (states_at port.1) (λ states. behind end_token states.1 >>= λ rest. Some (AddPortState port.0 states.0, rest)) x k0) [ read states h1 k1 ↦
-    elim (step (behind end_token states.1) (λ rest. Some (AddPortState port.0 states.0, rest)) x k1) [ read rest h2 k2 ↦
+    elim (step (word_at tokens) (λ port. states_at port.1 >>= λ states. behind end_token states.1 >>= λ rest. Some (AddPortState port.0 states.0, rest)) x e) [ went port h0 k0 ↦
+    elim (step (states_at port.1) (λ states. behind end_token states.1 >>= λ rest. Some (AddPortState port.0 states.0, rest)) x k0) [ went states h1 k1 ↦
+    elim (step (behind end_token states.1) (λ rest. Some (AddPortState port.0 states.0, rest)) x k1) [ went rest h2 k2 ↦
     let w0 = word_takes tokens port h0 in
     let list = states_take port.1 states h1 in
     let made : Command × List (List ℕ) = (AddPortState port.0 states.0, rest) in
@@ -213,10 +213,10 @@ add_port_state_takes tokens x e =
 create_pst_takes : (tokens : List (List ℕ)) (x : Command × List (List ℕ)) → create_pst_at tokens ≡ Some x → IsLine (codes "create_pst" ∷ tokens) x
 unfolding create_pst_at
 create_pst_takes tokens x e =
-    elim (step (word_at tokens) (λ name. behind (codes "-supplies") name.1 >>= λ columns. listed_at columns >>= λ supplies. behind end_token supplies.1 >>= λ rest. Some (CreatePst name.0 supplies.0, rest)) x e) [ read name h0 k0 ↦
-    elim (step (behind (codes "-supplies") name.1) (λ columns. listed_at columns >>= λ supplies. behind end_token supplies.1 >>= λ rest. Some (CreatePst name.0 supplies.0, rest)) x k0) [ read columns h1 k1 ↦
-    elim (step (listed_at columns) (λ supplies. behind end_token supplies.1 >>= λ rest. Some (CreatePst name.0 supplies.0, rest)) x k1) [ read supplies h2 k2 ↦
-    elim (step (behind end_token supplies.1) (λ rest. Some (CreatePst name.0 supplies.0, rest)) x k2) [ read rest h3 k3 ↦
+    elim (step (word_at tokens) (λ name. behind (codes "-supplies") name.1 >>= λ columns. listed_at columns >>= λ supplies. behind end_token supplies.1 >>= λ rest. Some (CreatePst name.0 supplies.0, rest)) x e) [ went name h0 k0 ↦
+    elim (step (behind (codes "-supplies") name.1) (λ columns. listed_at columns >>= λ supplies. behind end_token supplies.1 >>= λ rest. Some (CreatePst name.0 supplies.0, rest)) x k0) [ went columns h1 k1 ↦
+    elim (step (listed_at columns) (λ supplies. behind end_token supplies.1 >>= λ rest. Some (CreatePst name.0 supplies.0, rest)) x k1) [ went supplies h2 k2 ↦
+    elim (step (behind end_token supplies.1) (λ rest. Some (CreatePst name.0 supplies.0, rest)) x k2) [ went rest h3 k3 ↦
     let w0 = word_takes tokens name h0 in
     let list = listed_takes columns supplies h2 in
     let made : Command × List (List ℕ) = (CreatePst name.0 supplies.0, rest) in
@@ -245,9 +245,9 @@ IsRow tokens x = Row tokens x.0 x.1 x.2
 table_first_takes : (tokens : List (List ℕ)) (x : List ℕ × List (List ℕ) × List (List ℕ)) → table_first_at tokens ≡ Some x → IsRow tokens x
 unfolding table_first_at
 table_first_takes tokens x e =
-    elim (step (option_at (codes "-pst") tokens) (λ table. behind (codes "-state") table.1 >>= λ columns. listed_at columns >>= λ states. Some (table.0, states.0, states.1)) x e) [ read table h0 k0 ↦
-    elim (step (behind (codes "-state") table.1) (λ columns. listed_at columns >>= λ states. Some (table.0, states.0, states.1)) x k0) [ read columns h1 k1 ↦
-    elim (step (listed_at columns) (λ states. Some (table.0, states.0, states.1)) x k1) [ read states h2 k2 ↦
+    elim (step (option_at (codes "-pst") tokens) (λ table. behind (codes "-state") table.1 >>= λ columns. listed_at columns >>= λ states. Some (table.0, states.0, states.1)) x e) [ went table h0 k0 ↦
+    elim (step (behind (codes "-state") table.1) (λ columns. listed_at columns >>= λ states. Some (table.0, states.0, states.1)) x k0) [ went columns h1 k1 ↦
+    elim (step (listed_at columns) (λ states. Some (table.0, states.0, states.1)) x k1) [ went states h2 k2 ↦
     let w0 = option_takes (codes "-pst") tokens table h0 in
     let list = listed_takes columns states h2 in
     let made : List ℕ × List (List ℕ) × List (List ℕ) = (table.0, states.0, states.1) in
@@ -265,9 +265,9 @@ table_first_takes tokens x e =
 states_first_takes : (tokens : List (List ℕ)) (x : List ℕ × List (List ℕ) × List (List ℕ)) → states_first_at tokens ≡ Some x → IsRow tokens x
 unfolding states_first_at
 states_first_takes tokens x e =
-    elim (step (behind (codes "-state") tokens) (λ columns. listed_at columns >>= λ states. option_at (codes "-pst") states.1 >>= λ table. Some (table.0, states.0, table.1)) x e) [ read columns h0 k0 ↦
-    elim (step (listed_at columns) (λ states. option_at (codes "-pst") states.1 >>= λ table. Some (table.0, states.0, table.1)) x k0) [ read states h1 k1 ↦
-    elim (step (option_at (codes "-pst") states.1) (λ table. Some (table.0, states.0, table.1)) x k1) [ read table h2 k2 ↦
+    elim (step (behind (codes "-state") tokens) (λ columns. listed_at columns >>= λ states. option_at (codes "-pst") states.1 >>= λ table. Some (table.0, states.0, table.1)) x e) [ went columns h0 k0 ↦
+    elim (step (listed_at columns) (λ states. option_at (codes "-pst") states.1 >>= λ table. Some (table.0, states.0, table.1)) x k0) [ went states h1 k1 ↦
+    elim (step (option_at (codes "-pst") states.1) (λ table. Some (table.0, states.0, table.1)) x k1) [ went table h2 k2 ↦
     let list = listed_takes columns states h1 in
     let w2 = option_takes (codes "-pst") states.1 table h2 in
     let made : List ℕ × List (List ℕ) × List (List ℕ) = (table.0, states.0, table.1) in
@@ -293,9 +293,9 @@ row_takes tokens x e =
 add_pst_state_takes : (tokens : List (List ℕ)) (x : Command × List (List ℕ)) → add_pst_state_at tokens ≡ Some x → IsLine (codes "add_pst_state" ∷ tokens) x
 unfolding add_pst_state_at
 add_pst_state_takes tokens x e =
-    elim (step (word_at tokens) (λ name. row_at name.1 >>= λ row. behind end_token row.2 >>= λ rest. Some (AddPstState name.0 row.0 row.1, rest)) x e) [ read name h0 k0 ↦
-    elim (step (row_at name.1) (λ row. behind end_token row.2 >>= λ rest. Some (AddPstState name.0 row.0 row.1, rest)) x k0) [ read row h1 k1 ↦
-    elim (step (behind end_token row.2) (λ rest. Some (AddPstState name.0 row.0 row.1, rest)) x k1) [ read rest h2 k2 ↦
+    elim (step (word_at tokens) (λ name. row_at name.1 >>= λ row. behind end_token row.2 >>= λ rest. Some (AddPstState name.0 row.0 row.1, rest)) x e) [ went name h0 k0 ↦
+    elim (step (row_at name.1) (λ row. behind end_token row.2 >>= λ rest. Some (AddPstState name.0 row.0 row.1, rest)) x k0) [ went row h1 k1 ↦
+    elim (step (behind end_token row.2) (λ rest. Some (AddPstState name.0 row.0 row.1, rest)) x k1) [ went rest h2 k2 ↦
     let w0 = word_takes tokens name h0 in
     let list = row_takes name.1 row h1 in
     let made : Command × List (List ℕ) = (AddPstState name.0 row.0 row.1, rest) in

@@ -9,7 +9,7 @@ use Rattle.pe_tool.specs.declared.fault.FormFault.TheVariants.{Memory, NotBuilt}
 use Rattle.pe_tool.specs.UpfTokens.{is_word}
 use Rattle.pe_tool.specs.Upf.{braced, state_tokens, state_words, is_state}
 use Rattle.pe_tool.specs.UpfReading.{◌>>=◌, Fails, begins, behind, word_at, words_front, words_back, is_count, state_at, states_within, states_at}
-use Rattle.pe_tool.proofs.UpfWords.{bind_some, guard_some, Which, then, else, which, some_is, follow, both_true, behind_takes, behind_again, word_takes, word_again, words_split, words_are, words_front_again, words_back_again}
+use Rattle.pe_tool.proofs.UpfWords.{Step, went, step, guard_some, Which, then, else, which, some_is, follow, both_true, behind_takes, behind_again, word_takes, word_again, words_split, words_are, words_front_again, words_back_again}
 
 -- ---- a state
 
@@ -19,17 +19,18 @@ IsTaken tokens x = (tokens ≡ state_tokens x.0 ++ x.1) × (list_all is_word (st
 pub state_takes : (tokens : List (List ℕ)) (x : PortState × List (List ℕ)) → state_at tokens ≡ Some x → IsTaken tokens x
 unfolding state_at
 state_takes tokens x e =
-    let a = bind_some (behind (codes "-state") tokens) (λ opened. behind (codes "{") opened >>= λ inner. word_at inner >>= λ name. behind (codes "}") (words_back name.1) >>= λ rest. cond (is_count (words_front name.1)) (Some (record { name = name.0; values = words_front name.1 }, rest)) None) x e in
-    let b = bind_some (behind (codes "{") a.0) (λ inner. word_at inner >>= λ name. behind (codes "}") (words_back name.1) >>= λ rest. cond (is_count (words_front name.1)) (Some (record { name = name.0; values = words_front name.1 }, rest)) None) x a.2 in
-    let c = bind_some (word_at b.0) (λ name. behind (codes "}") (words_back name.1) >>= λ rest. cond (is_count (words_front name.1)) (Some (record { name = name.0; values = words_front name.1 }, rest)) None) x b.2 in
-    let d = bind_some (behind (codes "}") (words_back c.0.1)) (λ rest. cond (is_count (words_front c.0.1)) (Some (record { name = c.0.0; values = words_front c.0.1 }, rest)) None) x c.2 in
-    let made : PortState × List (List ℕ) = (record { name = c.0.0; values = words_front c.0.1 }, d.0) in
-    let g = guard_some (is_count (words_front c.0.1)) made x d.2 in
-    let word = word_takes b.0 c.0 c.1 in
-    let inner : c.0.1 ≡ words_front c.0.1 ++ codes "}" ∷ d.0 = words_split c.0.1 ∙ ap (λ (t : List (List ℕ)). words_front c.0.1 ++ t) (behind_takes (codes "}") (words_back c.0.1) d.0 d.1) in
-    let closed : c.0.1 ≡ (words_front c.0.1 ++ codes "}" ∷ []) ++ d.0 = inner ∙ sym (append_assoc (words_front c.0.1) (codes "}" ∷ []) d.0) in
-    let parts : tokens ≡ state_tokens made.0 ++ made.1 = follow (behind_takes (codes "-state") tokens a.0 a.1) (follow (behind_takes (codes "{") a.0 b.0 b.1) (follow word.0 closed)) in
-    subst (IsTaken tokens) g.1 (parts, rw (word.1, words_are c.0.1) refl, g.0)
+    elim (step (behind (codes "-state") tokens) (λ opened. behind (codes "{") opened >>= λ inner. word_at inner >>= λ name. behind (codes "}") (words_back name.1) >>= λ rest. cond (is_count (words_front name.1)) (Some (record { name = name.0; values = words_front name.1 }, rest)) None) x e) [ went opened h0 k0 ↦
+    elim (step (behind (codes "{") opened) (λ inner. word_at inner >>= λ name. behind (codes "}") (words_back name.1) >>= λ rest. cond (is_count (words_front name.1)) (Some (record { name = name.0; values = words_front name.1 }, rest)) None) x k0) [ went inner h1 k1 ↦
+    elim (step (word_at inner) (λ name. behind (codes "}") (words_back name.1) >>= λ rest. cond (is_count (words_front name.1)) (Some (record { name = name.0; values = words_front name.1 }, rest)) None) x k1) [ went name h2 k2 ↦
+    elim (step (behind (codes "}") (words_back name.1)) (λ rest. cond (is_count (words_front name.1)) (Some (record { name = name.0; values = words_front name.1 }, rest)) None) x k2) [ went rest h3 k3 ↦
+    let made : PortState × List (List ℕ) = (record { name = name.0; values = words_front name.1 }, rest) in
+    let g = guard_some (is_count (words_front name.1)) made x k3 in
+    let word = word_takes inner name h2 in
+    let split : name.1 ≡ words_front name.1 ++ codes "}" ∷ rest = words_split name.1 ∙ ap (λ (t : List (List ℕ)). words_front name.1 ++ t) (behind_takes (codes "}") (words_back name.1) rest h3) in
+    let closed : name.1 ≡ (words_front name.1 ++ codes "}" ∷ []) ++ rest = split ∙ sym (append_assoc (words_front name.1) (codes "}" ∷ []) rest) in
+    let parts : tokens ≡ state_tokens made.0 ++ made.1 = follow (behind_takes (codes "-state") tokens opened h0) (follow (behind_takes (codes "{") opened inner h1) (follow word.0 closed)) in
+    subst (IsTaken tokens) g.1 (parts, rw (word.1, words_are name.1) refl, g.0)
+    ] ] ] ]
 
 pub state_again : (s : PortState) (rest : List (List ℕ)) → list_all is_word (state_words s) ≡ true → is_state s ≡ true → state_at (state_tokens s ++ rest) ≡ Some (s, rest)
 unfolding state_at
@@ -114,15 +115,16 @@ within_take zero tokens x e = none_taken tokens x e
 within_take (suc n) tokens x e =
     elim (which (begins (codes "-state") tokens) (state_at tokens >>= λ state. adds state.0 (states_within n state.1)) (Some ([], tokens)) (Some x) e) [
       | then b h ↦
-          let first = bind_some (state_at tokens) (λ state. adds state.0 (states_within n state.1)) x h in
-          let second = bind_some (states_within n first.0.1) (λ others. Some (first.0.0 ∷ others.0, others.1)) x first.2 in
-          let one = state_takes tokens first.0 first.1 in
-          let more = within_take n first.0.1 second.0 second.1 in
-          let made : List PortState × List (List ℕ) = (first.0.0 ∷ second.0.0, second.0.1) in
+          elim (step (state_at tokens) (λ state. adds state.0 (states_within n state.1)) x h) [ went first h0 k0 ↦
+          elim (step (states_within n first.1) (λ others. Some (first.0 ∷ others.0, others.1)) x k0) [ went others h1 k1 ↦
+          let one = state_takes tokens first h0 in
+          let more = within_take n first.1 others h1 in
+          let made : List PortState × List (List ℕ) = (first.0 ∷ others.0, others.1) in
           let parts : tokens ≡ flat_map state_tokens made.0 ++ made.1 =
-              one.0 ∙ ap (λ (t : List (List ℕ)). state_tokens first.0.0 ++ t) more.0 ∙ sym (append_assoc (state_tokens first.0.0) (flat_map state_tokens second.0.0) second.0.1) in
-          let words = list_all-append is_word (state_words first.0.0) (flat_map state_words second.0.0) ∙ and_true _ _ one.1 more.1 in
-          subst (AreTaken tokens) (some_is made x second.2) (parts, words, and_true _ _ one.2 more.2)
+              one.0 ∙ ap (λ (t : List (List ℕ)). state_tokens first.0 ++ t) more.0 ∙ sym (append_assoc (state_tokens first.0) (flat_map state_tokens others.0) others.1) in
+          let words = list_all-append is_word (state_words first.0) (flat_map state_words others.0) ∙ and_true _ _ one.1 more.1 in
+          subst (AreTaken tokens) (some_is made x k1) (parts, words, and_true _ _ one.2 more.2)
+          ] ]
       | else b h ↦ none_taken tokens x h
     ]
 

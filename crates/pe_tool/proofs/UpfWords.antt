@@ -8,16 +8,11 @@ use Rattle.pe_tool.specs.Upf.{braced, IsListed}
 use Rattle.pe_tool.specs.UpfReading.{◌>>=◌, begins, behind, word_at, option_at, words_front, words_back, braced_at, bare_at, listed_at, one_braced_at, one_listed_at}
 
 -- the value of a step that did not fail
-pub bind_some : {A B : Type 0} (r : Option A) (f : A → Option B) (y : B) → (r >>= f) ≡ Some y → (x : A) × (r ≡ Some x) × (f x ≡ Some y)
-bind_some (Some x) f y e = (x, refl, e)
-bind_some None f y e = absurd cc
-
--- the same, to be taken apart by cases
 pub data Step {A B : Type 0} (r : Option A) (f : A → Option B) (y : B) : Type 0 where
-  read : (x : A) → r ≡ Some x → f x ≡ Some y → Step r f y
+  went : (x : A) → r ≡ Some x → f x ≡ Some y → Step r f y
 
 pub step : {A B : Type 0} (r : Option A) (f : A → Option B) (y : B) → (r >>= f) ≡ Some y → Step r f y
-step (Some x) f y e = read x refl e
+step (Some x) f y e = went x refl e
 step None f y e = absurd cc
 
 -- a test that did not fail
@@ -91,9 +86,10 @@ word_again word rest h = rw h refl
 pub option_takes : (name : List ℕ) (tokens : List (List ℕ)) (x : List ℕ × List (List ℕ)) → option_at name tokens ≡ Some x → (tokens ≡ name ∷ x.0 ∷ x.1) × (is_word x.0 ≡ true)
 unfolding option_at
 option_takes name tokens x e =
-    let a = bind_some (behind name tokens) (λ rest. word_at rest) x e in
-    let b = word_takes a.0 x a.2 in
-    (behind_takes name tokens a.0 a.1 ∙ ap (λ (t : List (List ℕ)). name ∷ t) b.0, b.1)
+    elim (step (behind name tokens) (λ rest. word_at rest) x e) [ went rest h k ↦
+    let word = word_takes rest x k in
+    (follow (behind_takes name tokens rest h) word.0, word.1)
+    ]
 
 pub option_again : (name word : List ℕ) (rest : List (List ℕ)) → is_word word ≡ true → option_at name (name ∷ word ∷ rest) ≡ Some (word, rest)
 unfolding option_at
@@ -134,15 +130,13 @@ words_back_again (w ∷ ws) t rest h k =
 pub braced_takes : (tokens : List (List ℕ)) (x : List (List ℕ) × List (List ℕ)) → braced_at tokens ≡ Some x → (tokens ≡ braced x.0 ++ x.1) × (list_all is_word x.0 ≡ true)
 unfolding braced_at
 braced_takes tokens x e =
-    let a = bind_some (behind (codes "{") tokens) (λ inner. behind (codes "}") (words_back inner) >>= λ rest. Some (words_front inner, rest)) x e in
-    let b = bind_some (behind (codes "}") (words_back a.0)) (λ rest. Some (words_front a.0, rest)) x a.2 in
-    let front = behind_takes (codes "{") tokens a.0 a.1 in
-    let back = behind_takes (codes "}") (words_back a.0) b.0 b.1 in
-    let inner : a.0 ≡ words_front a.0 ++ codes "}" ∷ b.0 = words_split a.0 ∙ ap (λ (t : List (List ℕ)). words_front a.0 ++ t) back in
-    let whole : tokens ≡ braced (words_front a.0) ++ b.0 =
-        front ∙ ap (λ (t : List (List ℕ)). codes "{" ∷ t) (inner ∙ sym (append_assoc (words_front a.0) (codes "}" ∷ []) b.0)) in
-    let made : List (List ℕ) × List (List ℕ) = (words_front a.0, b.0) in
-    subst (λ (y : List (List ℕ) × List (List ℕ)). (tokens ≡ braced y.0 ++ y.1) × (list_all is_word y.0 ≡ true)) (some_is made x b.2) (whole, words_are a.0)
+    elim (step (behind (codes "{") tokens) (λ inner. behind (codes "}") (words_back inner) >>= λ rest. Some (words_front inner, rest)) x e) [ went inner h k ↦
+    elim (step (behind (codes "}") (words_back inner)) (λ rest. Some (words_front inner, rest)) x k) [ went rest g m ↦
+    let split : inner ≡ words_front inner ++ codes "}" ∷ rest = words_split inner ∙ ap (λ (t : List (List ℕ)). words_front inner ++ t) (behind_takes (codes "}") (words_back inner) rest g) in
+    let closed : inner ≡ (words_front inner ++ codes "}" ∷ []) ++ rest = split ∙ sym (append_assoc (words_front inner) (codes "}" ∷ []) rest) in
+    let made : List (List ℕ) × List (List ℕ) = (words_front inner, rest) in
+    subst (λ (y : List (List ℕ) × List (List ℕ)). (tokens ≡ braced y.0 ++ y.1) × (list_all is_word y.0 ≡ true)) (some_is made x m) (follow (behind_takes (codes "{") tokens inner h) closed, words_are inner)
+    ] ]
 
 pub braced_again : (words rest : List (List ℕ)) → list_all is_word words ≡ true → braced_at (braced words ++ rest) ≡ Some (words, rest)
 unfolding braced_at
@@ -154,10 +148,11 @@ braced_again words rest h =
 bare_takes : (tokens : List (List ℕ)) (x : List (List ℕ) × List (List ℕ)) → bare_at tokens ≡ Some x → (tokens ≡ x.0 ++ x.1) × (length x.0 ≡ 1) × (list_all is_word x.0 ≡ true)
 unfolding bare_at
 bare_takes tokens x e =
-    let a = bind_some (word_at tokens) (λ word. Some (word.0 ∷ [], word.1)) x e in
-    let w = word_takes tokens a.0 a.1 in
-    let made : List (List ℕ) × List (List ℕ) = (a.0.0 ∷ [], a.0.1) in
-    subst (λ (y : List (List ℕ) × List (List ℕ)). (tokens ≡ y.0 ++ y.1) × (length y.0 ≡ 1) × (list_all is_word y.0 ≡ true)) (some_is made x a.2) (w.0, refl, rw w.1 refl)
+    elim (step (word_at tokens) (λ word. Some (word.0 ∷ [], word.1)) x e) [ went word h k ↦
+    let w = word_takes tokens word h in
+    let made : List (List ℕ) × List (List ℕ) = (word.0 ∷ [], word.1) in
+    subst (λ (y : List (List ℕ) × List (List ℕ)). (tokens ≡ y.0 ++ y.1) × (length y.0 ≡ 1) × (list_all is_word y.0 ≡ true)) (some_is made x k) (w.0, refl, rw w.1 refl)
+    ]
 
 -- a list of words, between the tokens before and the rest
 pub record Listed (tokens words rest : List (List ℕ)) : Type 0 where
@@ -198,14 +193,13 @@ listed_again spelling words rest (inr (e, n)) h = ap (λ (t : List (List ℕ)). 
 one_braced_takes : (tokens : List (List ℕ)) (x : List ℕ × List (List ℕ)) → one_braced_at tokens ≡ Some x → (tokens ≡ braced (x.0 ∷ []) ++ x.1) × (is_word x.0 ≡ true)
 unfolding one_braced_at
 one_braced_takes tokens x e =
-    let a = bind_some (behind (codes "{") tokens) (λ inner. word_at inner >>= λ word. behind (codes "}") word.1 >>= λ rest. Some (word.0, rest)) x e in
-    let b = bind_some (word_at a.0) (λ word. behind (codes "}") word.1 >>= λ rest. Some (word.0, rest)) x a.2 in
-    let d = bind_some (behind (codes "}") b.0.1) (λ rest. Some (b.0.0, rest)) x b.2 in
-    let front = behind_takes (codes "{") tokens a.0 a.1 in
-    let word = word_takes a.0 b.0 b.1 in
-    let back = behind_takes (codes "}") b.0.1 d.0 d.1 in
-    let made : List ℕ × List (List ℕ) = (b.0.0, d.0) in
-    subst (λ (y : List ℕ × List (List ℕ)). (tokens ≡ braced (y.0 ∷ []) ++ y.1) × (is_word y.0 ≡ true)) (some_is made x d.2) (follow front (follow word.0 back), word.1)
+    elim (step (behind (codes "{") tokens) (λ inner. word_at inner >>= λ word. behind (codes "}") word.1 >>= λ rest. Some (word.0, rest)) x e) [ went inner h k ↦
+    elim (step (word_at inner) (λ word. behind (codes "}") word.1 >>= λ rest. Some (word.0, rest)) x k) [ went word g m ↦
+    elim (step (behind (codes "}") word.1) (λ rest. Some (word.0, rest)) x m) [ went rest j n ↦
+    let w = word_takes inner word g in
+    let made : List ℕ × List (List ℕ) = (word.0, rest) in
+    subst (λ (y : List ℕ × List (List ℕ)). (tokens ≡ braced (y.0 ∷ []) ++ y.1) × (is_word y.0 ≡ true)) (some_is made x n) (follow (behind_takes (codes "{") tokens inner h) (follow w.0 (behind_takes (codes "}") word.1 rest j)), w.1)
+    ] ] ]
 
 pub one_listed_takes : (tokens : List (List ℕ)) (x : List ℕ × List (List ℕ)) → one_listed_at tokens ≡ Some x → Listed tokens (x.0 ∷ []) x.1
 unfolding one_listed_at

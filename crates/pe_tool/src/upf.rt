@@ -92,3 +92,6 @@ pub fn read_upf(alloc: Global, text: &[u8]) -> Result<Items<Command>, FormFault>
 pub fn one_upf()
     ensures { (text : List ℕ) (cs ds : List Command) → IsUpf text cs → IsUpf text ds → cs ≡ ds }
 {}
+
+#[cfg(test)]
+mod upf_tests;
