@@ -4,7 +4,7 @@ use Rattle.std.proofs.lemmas.Bool.{eqb-true}
 use Rattle.std.proofs.lemmas.List.{nil_from_length}
 use Rattle.pe_base.specs.Walk.{Start, gap, token, bad}
 use Rattle.pe_base.proofs.Walks.{Reaches}
-use Rattle.pe_tool.specs.UpfTokens.{is_blank, is_end, goes_on_word, word_front, word_back, next_command, after_backslash, end_token, upf_start}
+use Rattle.pe_tool.specs.UpfTokens.{is_blank, is_end, is_passed, goes_on_word, word_front, word_back, next_command, after_backslash, end_token, upf_start}
 
 -- what is left behind a gap or a token is shorter than this
 abbrev pub Leaves : ℕ → Start → Type 0
@@ -38,7 +38,7 @@ next_short false (b ∷ bs) =
     let outside : length (next_command false bs) ≤ suc (length bs) = omega arith in
     let inside : length (next_command true bs) ≤ suc (length bs) = omega arith in
     let all : suc (length bs) ≤ suc (length bs) = omega arith in
-    shorter (is_blank b || is_end b) (next_command false bs) _ _ outside (shorter (eqb b 35) (next_command true bs) (b ∷ bs) _ inside all)
+    shorter (is_passed (b ∷ bs)) (next_command false bs) _ _ outside (shorter (eqb b 35) (next_command true bs) (b ∷ bs) _ inside all)
 
 backslash_leaves : (n : ℕ) (bs : List ℕ) → length bs < n → Leaves n (after_backslash bs)
 backslash_leaves n [] h = tt

@@ -3,7 +3,7 @@
 ghost use Rattle.std.specs.Prelude.{◌≡◌, ◌++◌, ◌≤◌, IfOk, List, ℕ, length, take, drop, true, false};
 ghost use Rattle.std.specs.List.{list_all};
 ghost use Rattle.pe_base.specs.Walk.{IsCut};
-ghost use Rattle.pe_tool.specs.UpfTokens.{is_one_of, is_blank, is_end, goes_on_word, word_front, word_back, next_command as from_next_command, after_backslash as start_after_backslash, upf_start, is_word, end_token};
+ghost use Rattle.pe_tool.specs.UpfTokens.{is_blank, is_end, is_continued, is_passed, goes_on_word, word_front, word_back, next_command as from_next_command, after_backslash as start_after_backslash, upf_start, is_word, end_token};
 ghost use Rattle.pe_tool.specs.UpfReading.{seen, IsTokensAnswer};
 
 use crate::fault::FormFault;
@@ -31,6 +31,16 @@ fn is_end(byte: u8) -> bool
     ensures { result ≡ is_end byte }
 {
     byte == b'\n' || byte == b';'
+}
+
+/// Whether the text begins with a backslash and a line's end.
+fn is_continued(text: &[u8]) -> bool
+    ensures { result ≡ is_continued text.now }
+{
+    match text {
+        [first, second, ..] => *first == b'\\' && *second == b'\n',
+        _ => false,
+    }
 }
 
 fn goes_on_word(byte: u8) -> bool
@@ -70,6 +80,16 @@ fn word_len(text: &[u8]) -> usize
     text.len()
 }
 
+/// Whether the first byte is passed over where a command could start.
+fn is_passed(text: &[u8]) -> bool
+    ensures { result ≡ is_passed text.now }
+{
+    match text {
+        [] => false,
+        [first, ..] => is_blank(*first) || is_end(*first) || is_continued(text),
+    }
+}
+
 /// The text from the next command on: white space, ends and comments are passed over.
 fn next_command(text: &[u8]) -> &[u8]
     ensures { result.now ≡ from_next_command false text.now }
@@ -80,7 +100,7 @@ fn next_command(text: &[u8]) -> &[u8]
             inside_comment = *byte != b'\n';
         } else if *byte == b'#' {
             inside_comment = true;
-        } else if !is_blank(*byte) && !is_end(*byte) {
+        } else if !is_passed(&text[i..]) {
             return &text[i..];
         }
     }

@@ -37,11 +37,12 @@ create_pst T -supplies VDD
 add_pst_state ON -state HV -pst T";
 
 /// Each text, and how many commands it has, where it has any.
-const TEXTS: [(&[u8], Option<usize>); 22] = [
+const TEXTS: [(&[u8], Option<usize>); 23] = [
     (AND2, Some(13)),
     (OTHERWISE, Some(13)),
     (b"", Some(0)),
     (b"  # nothing\n;;\n", Some(0)),
+    (b" \\\n\n\\\n# nothing\n\\\n;", Some(0)),
     (b"create_pst T -supplies {}", Some(1)),
     (b"create_pst T -supplies {VDD \\\nVSS}", Some(1)),
     (b"set_design_top $t\n", None),
