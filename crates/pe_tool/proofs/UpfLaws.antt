@@ -1,5 +1,5 @@
 -- A UPF text spells the commands that are read from its tokens, and no others.
-use Rattle.std.proofs.Common.{◌≡◌, ℕ, ◌≤◌, Bool, true, false, ◌&&◌, List, [], ◌∷◌, ◌++◌, length, Option, Some, Result, Ok, Err, IfOk, refl, sym, ap, subst, ◌∙◌, append_assoc}
+use Rattle.std.proofs.Common.{◌≡◌, ℕ, ◌≤◌, true, false, List, [], ◌∷◌, ◌++◌, length, Result, Ok, Err, IfOk, refl, sym, ap, subst, ◌∙◌, append_assoc}
 use Rattle.std.specs.List.{list_all, flat_map, AllZip}
 use Rattle.std.proofs.lemmas.List.Folds.{list_all-append}
 use Rattle.pe_base.specs.Walk.{IsCut}
@@ -12,7 +12,7 @@ use Rattle.pe_tool.specs.Upf.{IsCommand, command_words, has_states, ended, IsUpf
 use Rattle.pe_tool.specs.UpfReading.{IsTokensAnswer, command_at, AreRead}
 use Rattle.pe_tool.proofs.UpfWords.{both_true}
 use Rattle.pe_tool.proofs.UpfStates.{and_true}
-use Rattle.pe_tool.proofs.UpfCommands.{Line, command_takes, command_again}
+use Rattle.pe_tool.proofs.UpfCommands.{command_takes, command_again}
 use Rattle.pe_tool.proofs.UpfRuns.{after_command, nothing_more}
 
 -- the tokens spell the commands
@@ -42,8 +42,7 @@ spelled_is_read [] (c ∷ cs) h w s = absurd h
 spelled_is_read (line ∷ lines) [] h w s = absurd h
 spelled_is_read (line ∷ lines) (c ∷ cs) h w s =
     let words = both_true _ _ (sym (list_all-append is_word (command_words c) (flat_map command_words cs)) ∙ w) in
-    let states = both_true (has_states c) (list_all has_states cs) s in
-    (
+    let states = both_true (has_states c) (list_all has_states cs) s in (
       ended lines,
       ap command_at (append_assoc line (end_token ∷ []) (ended lines)) ∙ command_again line c (ended lines) h.0 words.0 states.0,
       spelled_is_read lines cs h.1 words.1 states.1,

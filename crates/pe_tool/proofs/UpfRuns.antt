@@ -1,5 +1,5 @@
 -- Commands that are read one behind the other: how far the loop has come, and that they are the text's.
-use Rattle.std.proofs.Common.{◌≡◌, ◌≢◌, ℕ, ◌<◌, List, [], ◌∷◌, ◌++◌, length, Option, Some, None, Err, refl, sym, ap, subst, ◌∙◌, append_assoc, arith}
+use Rattle.std.proofs.Common.{◌≡◌, ◌≢◌, ℕ, ◌<◌, List, [], ◌∷◌, ◌++◌, length, Some, None, Err, refl, sym, ap, subst, ◌∙◌, append_assoc, arith}
 use Rattle.std.proofs.lemmas.List.{length-append, append-nil}
 use Rattle.pe_tool.specs.declared.fault.FormFault.{FormFault}
 use Rattle.pe_tool.specs.declared.fault.FormFault.TheVariants.{Memory, NotBuilt}
@@ -8,7 +8,7 @@ use Rattle.pe_tool.specs.UpfTokens.{end_token}
 use Rattle.pe_tool.specs.Upf.{IsUpfAnswer}
 use Rattle.pe_tool.specs.UpfReading.{Fails, command_at, AreRead}
 use Rattle.pe_tool.proofs.UpfWords.{some_is}
-use Rattle.pe_tool.proofs.UpfCommands.{Line, command_takes}
+use Rattle.pe_tool.proofs.UpfCommands.{command_takes}
 
 -- between the tokens and the rest stand just these commands
 pub record Upto (tokens : List (List ℕ)) (done : List Command) (rest : List (List ℕ)) : Type 0 where

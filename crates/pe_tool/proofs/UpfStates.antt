@@ -1,5 +1,5 @@
 -- The states of a port: what is read is spelled so, what is spelled so is read, and how the loop reads them.
-use Rattle.std.proofs.Common.{◌≡◌, ℕ, zero, suc, ◌+◌, ◌<◌, ◌≤◌, Bool, true, false, cond, ◌&&◌, List, [], ◌∷◌, ◌++◌, length, codes, Option, Some, None, refl, sym, ap, subst, ◌∙◌, append_assoc, arith}
+use Rattle.std.proofs.Common.{◌≡◌, ℕ, zero, suc, ◌<◌, ◌≤◌, Bool, true, false, cond, ◌&&◌, List, [], ◌∷◌, ◌++◌, length, codes, Option, Some, None, refl, sym, ap, subst, ◌∙◌, append_assoc, arith}
 use Rattle.std.specs.List.{list_all, flat_map}
 use Rattle.std.proofs.lemmas.List.{length-append, append-nil}
 use Rattle.std.proofs.lemmas.List.Folds.{list_all-append}
@@ -7,9 +7,9 @@ use Rattle.pe_tool.specs.declared.upf.PortState.{PortState}
 use Rattle.pe_tool.specs.declared.fault.FormFault.{FormFault}
 use Rattle.pe_tool.specs.declared.fault.FormFault.TheVariants.{Memory, NotBuilt}
 use Rattle.pe_tool.specs.UpfTokens.{is_word}
-use Rattle.pe_tool.specs.Upf.{braced, state_tokens, state_words, is_state}
+use Rattle.pe_tool.specs.Upf.{state_tokens, state_words, is_state}
 use Rattle.pe_tool.specs.UpfReading.{◌>>=◌, Fails, begins, behind, word_at, words_front, words_back, is_count, state_at, states_within, states_at}
-use Rattle.pe_tool.proofs.UpfWords.{Step, went, step, guard_some, Which, then, else, which, some_is, follow, both_true, behind_takes, behind_again, word_takes, word_again, words_split, words_are, words_front_again, words_back_again}
+use Rattle.pe_tool.proofs.UpfWords.{went, step, guard_some, then, else, which, some_is, follow, both_true, behind_takes, behind_again, word_takes, word_again, words_split, words_are, words_front_again, words_back_again}
 
 -- ---- a state
 
@@ -19,18 +19,25 @@ IsTaken tokens x = (tokens ≡ state_tokens x.0 ++ x.1) × (list_all is_word (st
 pub state_takes : (tokens : List (List ℕ)) (x : PortState × List (List ℕ)) → state_at tokens ≡ Some x → IsTaken tokens x
 unfolding state_at
 state_takes tokens x e =
-    elim (step (behind (codes "-state") tokens) (λ opened. behind (codes "{") opened >>= λ inner. word_at inner >>= λ name. behind (codes "}") (words_back name.1) >>= λ rest. cond (is_count (words_front name.1)) (Some (record { name = name.0; values = words_front name.1 }, rest)) None) x e) [ went opened h0 k0 ↦
-    elim (step (behind (codes "{") opened) (λ inner. word_at inner >>= λ name. behind (codes "}") (words_back name.1) >>= λ rest. cond (is_count (words_front name.1)) (Some (record { name = name.0; values = words_front name.1 }, rest)) None) x k0) [ went inner h1 k1 ↦
-    elim (step (word_at inner) (λ name. behind (codes "}") (words_back name.1) >>= λ rest. cond (is_count (words_front name.1)) (Some (record { name = name.0; values = words_front name.1 }, rest)) None) x k1) [ went name h2 k2 ↦
-    elim (step (behind (codes "}") (words_back name.1)) (λ rest. cond (is_count (words_front name.1)) (Some (record { name = name.0; values = words_front name.1 }, rest)) None) x k2) [ went rest h3 k3 ↦
-    let made : PortState × List (List ℕ) = (record { name = name.0; values = words_front name.1 }, rest) in
-    let g = guard_some (is_count (words_front name.1)) made x k3 in
-    let word = word_takes inner name h2 in
-    let split : name.1 ≡ words_front name.1 ++ codes "}" ∷ rest = words_split name.1 ∙ ap (λ (t : List (List ℕ)). words_front name.1 ++ t) (behind_takes (codes "}") (words_back name.1) rest h3) in
-    let closed : name.1 ≡ (words_front name.1 ++ codes "}" ∷ []) ++ rest = split ∙ sym (append_assoc (words_front name.1) (codes "}" ∷ []) rest) in
-    let parts : tokens ≡ state_tokens made.0 ++ made.1 = follow (behind_takes (codes "-state") tokens opened h0) (follow (behind_takes (codes "{") opened inner h1) (follow word.0 closed)) in
-    subst (IsTaken tokens) g.1 (parts, rw (word.1, words_are name.1) refl, g.0)
-    ] ] ] ]
+    elim (step (behind (codes "-state") tokens) (λ opened. behind (codes "{") opened >>= λ inner. word_at inner >>= λ name. behind (codes "}") (words_back name.1) >>= λ rest. cond (is_count (words_front name.1)) (Some (record { name = name.0; values = words_front name.1 }, rest)) None) x e) [
+      | went opened h0 k0 ↦
+          elim (step (behind (codes "{") opened) (λ inner. word_at inner >>= λ name. behind (codes "}") (words_back name.1) >>= λ rest. cond (is_count (words_front name.1)) (Some (record { name = name.0; values = words_front name.1 }, rest)) None) x k0) [
+            | went inner h1 k1 ↦
+                elim (step (word_at inner) (λ name. behind (codes "}") (words_back name.1) >>= λ rest. cond (is_count (words_front name.1)) (Some (record { name = name.0; values = words_front name.1 }, rest)) None) x k1) [
+                  | went name h2 k2 ↦
+                      elim (step (behind (codes "}") (words_back name.1)) (λ rest. cond (is_count (words_front name.1)) (Some (record { name = name.0; values = words_front name.1 }, rest)) None) x k2) [
+                        | went rest h3 k3 ↦
+                            let made : PortState × List (List ℕ) = (record { name = name.0; values = words_front name.1 }, rest) in
+                            let g = guard_some (is_count (words_front name.1)) made x k3 in
+                            let word = word_takes inner name h2 in
+                            let split : name.1 ≡ words_front name.1 ++ codes "}" ∷ rest = words_split name.1 ∙ ap (λ (t : List (List ℕ)). words_front name.1 ++ t) (behind_takes (codes "}") (words_back name.1) rest h3) in
+                            let closed : name.1 ≡ (words_front name.1 ++ codes "}" ∷ []) ++ rest = split ∙ sym (append_assoc (words_front name.1) (codes "}" ∷ []) rest) in
+                            let parts : tokens ≡ state_tokens made.0 ++ made.1 = follow (behind_takes (codes "-state") tokens opened h0) (follow (behind_takes (codes "{") opened inner h1) (follow word.0 closed)) in
+                            subst (IsTaken tokens) g.1 (parts, rw (word.1, words_are name.1) refl, g.0)
+                      ]
+                ]
+          ]
+    ]
 
 pub state_again : (s : PortState) (rest : List (List ℕ)) → list_all is_word (state_words s) ≡ true → is_state s ≡ true → state_at (state_tokens s ++ rest) ≡ Some (s, rest)
 unfolding state_at
@@ -65,14 +72,14 @@ within_same (suc n) zero (t ∷ ts) h k = absurd (omega arith)
 within_same (suc n) (suc m) tokens h k =
     let more : Option (PortState × List (List ℕ)) → ℕ → Option (List PortState × List (List ℕ)) = λ o n. o >>= λ state. adds state.0 (states_within n state.1) in
     let same : (o : Option (PortState × List (List ℕ))) → state_at tokens ≡ o → more o n ≡ more o m = λ o e.
-        elim o as (λ o. state_at tokens ≡ o → more o n ≡ more o m) [
-          | None ↦ λ e. refl
-          | Some x ↦ λ e.
-              let less = state_shorter tokens x e in
-              let low : length x.1 ≤ n = omega arith in
-              let high : length x.1 ≤ m = omega arith in
-              ap (adds x.0) (within_same n m x.1 low high)
-        ] e in
+    elim o as (λ o. state_at tokens ≡ o → more o n ≡ more o m) [
+      | None ↦ λ e. refl
+      | Some x ↦ λ e.
+          let less = state_shorter tokens x e in
+          let low : length x.1 ≤ n = omega arith in
+          let high : length x.1 ≤ m = omega arith in
+          ap (adds x.0) (within_same n m x.1 low high)
+    ] e in
     ap (λ r. cond (begins (codes "-state") tokens) r (Some ([], tokens))) (same (state_at tokens) refl)
 
 step_same : (n : ℕ) (tokens : List (List ℕ)) (o : Option (PortState × List (List ℕ))) → state_at tokens ≡ o → length tokens ≤ suc n
@@ -115,16 +122,19 @@ within_take zero tokens x e = none_taken tokens x e
 within_take (suc n) tokens x e =
     elim (which (begins (codes "-state") tokens) (state_at tokens >>= λ state. adds state.0 (states_within n state.1)) (Some ([], tokens)) (Some x) e) [
       | then b h ↦
-          elim (step (state_at tokens) (λ state. adds state.0 (states_within n state.1)) x h) [ went first h0 k0 ↦
-          elim (step (states_within n first.1) (λ others. Some (first.0 ∷ others.0, others.1)) x k0) [ went others h1 k1 ↦
-          let one = state_takes tokens first h0 in
-          let more = within_take n first.1 others h1 in
-          let made : List PortState × List (List ℕ) = (first.0 ∷ others.0, others.1) in
-          let parts : tokens ≡ flat_map state_tokens made.0 ++ made.1 =
-              one.0 ∙ ap (λ (t : List (List ℕ)). state_tokens first.0 ++ t) more.0 ∙ sym (append_assoc (state_tokens first.0) (flat_map state_tokens others.0) others.1) in
-          let words = list_all-append is_word (state_words first.0) (flat_map state_words others.0) ∙ and_true _ _ one.1 more.1 in
-          subst (AreTaken tokens) (some_is made x k1) (parts, words, and_true _ _ one.2 more.2)
-          ] ]
+          elim (step (state_at tokens) (λ state. adds state.0 (states_within n state.1)) x h) [
+            | went first h0 k0 ↦
+                elim (step (states_within n first.1) (λ others. Some (first.0 ∷ others.0, others.1)) x k0) [
+                  | went others h1 k1 ↦
+                      let one = state_takes tokens first h0 in
+                      let more = within_take n first.1 others h1 in
+                      let made : List PortState × List (List ℕ) = (first.0 ∷ others.0, others.1) in
+                      let parts : tokens ≡ flat_map state_tokens made.0 ++ made.1 =
+                      one.0 ∙ ap (λ (t : List (List ℕ)). state_tokens first.0 ++ t) more.0 ∙ sym (append_assoc (state_tokens first.0) (flat_map state_tokens others.0) others.1) in
+                      let words = list_all-append is_word (state_words first.0) (flat_map state_words others.0) ∙ and_true _ _ one.1 more.1 in
+                      subst (AreTaken tokens) (some_is made x k1) (parts, words, and_true _ _ one.2 more.2)
+                ]
+          ]
       | else b h ↦ none_taken tokens x h
     ]
 

@@ -1,5 +1,5 @@
 -- Words and lists of words: what is read is spelled so, and what is spelled so is read.
-use Rattle.std.proofs.Common.{◌≡◌, ℕ, suc, ◌≤◌, Bool, true, false, cond, ◌&&◌, List, [], ◌∷◌, ◌++◌, length, codes, Option, Some, None, refl, sym, ap, subst, ◌∙◌, append_assoc, inl, inr, arith}
+use Rattle.std.proofs.Common.{◌≡◌, ℕ, Bool, true, false, cond, ◌&&◌, List, [], ◌∷◌, ◌++◌, length, codes, Option, Some, None, refl, sym, ap, subst, ◌∙◌, append_assoc, inl, inr, arith}
 use Rattle.std.specs.Str.{bytes_eq}
 use Rattle.std.specs.List.{list_all}
 use Rattle.std.proofs.lemmas.Slice.Eq.{bytes_eq-Decides}
@@ -86,9 +86,10 @@ word_again word rest h = rw h refl
 pub option_takes : (name : List ℕ) (tokens : List (List ℕ)) (x : List ℕ × List (List ℕ)) → option_at name tokens ≡ Some x → (tokens ≡ name ∷ x.0 ∷ x.1) × (is_word x.0 ≡ true)
 unfolding option_at
 option_takes name tokens x e =
-    elim (step (behind name tokens) (λ rest. word_at rest) x e) [ went rest h k ↦
-    let word = word_takes rest x k in
-    (follow (behind_takes name tokens rest h) word.0, word.1)
+    elim (step (behind name tokens) (λ rest. word_at rest) x e) [
+      | went rest h k ↦
+          let word = word_takes rest x k in
+          (follow (behind_takes name tokens rest h) word.0, word.1)
     ]
 
 pub option_again : (name word : List ℕ) (rest : List (List ℕ)) → is_word word ≡ true → option_at name (name ∷ word ∷ rest) ≡ Some (word, rest)
@@ -130,13 +131,16 @@ words_back_again (w ∷ ws) t rest h k =
 pub braced_takes : (tokens : List (List ℕ)) (x : List (List ℕ) × List (List ℕ)) → braced_at tokens ≡ Some x → (tokens ≡ braced x.0 ++ x.1) × (list_all is_word x.0 ≡ true)
 unfolding braced_at
 braced_takes tokens x e =
-    elim (step (behind (codes "{") tokens) (λ inner. behind (codes "}") (words_back inner) >>= λ rest. Some (words_front inner, rest)) x e) [ went inner h k ↦
-    elim (step (behind (codes "}") (words_back inner)) (λ rest. Some (words_front inner, rest)) x k) [ went rest g m ↦
-    let split : inner ≡ words_front inner ++ codes "}" ∷ rest = words_split inner ∙ ap (λ (t : List (List ℕ)). words_front inner ++ t) (behind_takes (codes "}") (words_back inner) rest g) in
-    let closed : inner ≡ (words_front inner ++ codes "}" ∷ []) ++ rest = split ∙ sym (append_assoc (words_front inner) (codes "}" ∷ []) rest) in
-    let made : List (List ℕ) × List (List ℕ) = (words_front inner, rest) in
-    subst (λ (y : List (List ℕ) × List (List ℕ)). (tokens ≡ braced y.0 ++ y.1) × (list_all is_word y.0 ≡ true)) (some_is made x m) (follow (behind_takes (codes "{") tokens inner h) closed, words_are inner)
-    ] ]
+    elim (step (behind (codes "{") tokens) (λ inner. behind (codes "}") (words_back inner) >>= λ rest. Some (words_front inner, rest)) x e) [
+      | went inner h k ↦
+          elim (step (behind (codes "}") (words_back inner)) (λ rest. Some (words_front inner, rest)) x k) [
+            | went rest g m ↦
+                let split : inner ≡ words_front inner ++ codes "}" ∷ rest = words_split inner ∙ ap (λ (t : List (List ℕ)). words_front inner ++ t) (behind_takes (codes "}") (words_back inner) rest g) in
+                let closed : inner ≡ (words_front inner ++ codes "}" ∷ []) ++ rest = split ∙ sym (append_assoc (words_front inner) (codes "}" ∷ []) rest) in
+                let made : List (List ℕ) × List (List ℕ) = (words_front inner, rest) in
+                subst (λ (y : List (List ℕ) × List (List ℕ)). (tokens ≡ braced y.0 ++ y.1) × (list_all is_word y.0 ≡ true)) (some_is made x m) (follow (behind_takes (codes "{") tokens inner h) closed, words_are inner)
+          ]
+    ]
 
 pub braced_again : (words rest : List (List ℕ)) → list_all is_word words ≡ true → braced_at (braced words ++ rest) ≡ Some (words, rest)
 unfolding braced_at
@@ -148,10 +152,11 @@ braced_again words rest h =
 bare_takes : (tokens : List (List ℕ)) (x : List (List ℕ) × List (List ℕ)) → bare_at tokens ≡ Some x → (tokens ≡ x.0 ++ x.1) × (length x.0 ≡ 1) × (list_all is_word x.0 ≡ true)
 unfolding bare_at
 bare_takes tokens x e =
-    elim (step (word_at tokens) (λ word. Some (word.0 ∷ [], word.1)) x e) [ went word h k ↦
-    let w = word_takes tokens word h in
-    let made : List (List ℕ) × List (List ℕ) = (word.0 ∷ [], word.1) in
-    subst (λ (y : List (List ℕ) × List (List ℕ)). (tokens ≡ y.0 ++ y.1) × (length y.0 ≡ 1) × (list_all is_word y.0 ≡ true)) (some_is made x k) (w.0, refl, rw w.1 refl)
+    elim (step (word_at tokens) (λ word. Some (word.0 ∷ [], word.1)) x e) [
+      | went word h k ↦
+          let w = word_takes tokens word h in
+          let made : List (List ℕ) × List (List ℕ) = (word.0 ∷ [], word.1) in
+          subst (λ (y : List (List ℕ) × List (List ℕ)). (tokens ≡ y.0 ++ y.1) × (length y.0 ≡ 1) × (list_all is_word y.0 ≡ true)) (some_is made x k) (w.0, refl, rw w.1 refl)
     ]
 
 -- a list of words, between the tokens before and the rest
@@ -193,13 +198,18 @@ listed_again spelling words rest (inr (e, n)) h = ap (λ (t : List (List ℕ)). 
 one_braced_takes : (tokens : List (List ℕ)) (x : List ℕ × List (List ℕ)) → one_braced_at tokens ≡ Some x → (tokens ≡ braced (x.0 ∷ []) ++ x.1) × (is_word x.0 ≡ true)
 unfolding one_braced_at
 one_braced_takes tokens x e =
-    elim (step (behind (codes "{") tokens) (λ inner. word_at inner >>= λ word. behind (codes "}") word.1 >>= λ rest. Some (word.0, rest)) x e) [ went inner h k ↦
-    elim (step (word_at inner) (λ word. behind (codes "}") word.1 >>= λ rest. Some (word.0, rest)) x k) [ went word g m ↦
-    elim (step (behind (codes "}") word.1) (λ rest. Some (word.0, rest)) x m) [ went rest j n ↦
-    let w = word_takes inner word g in
-    let made : List ℕ × List (List ℕ) = (word.0, rest) in
-    subst (λ (y : List ℕ × List (List ℕ)). (tokens ≡ braced (y.0 ∷ []) ++ y.1) × (is_word y.0 ≡ true)) (some_is made x n) (follow (behind_takes (codes "{") tokens inner h) (follow w.0 (behind_takes (codes "}") word.1 rest j)), w.1)
-    ] ] ]
+    elim (step (behind (codes "{") tokens) (λ inner. word_at inner >>= λ word. behind (codes "}") word.1 >>= λ rest. Some (word.0, rest)) x e) [
+      | went inner h k ↦
+          elim (step (word_at inner) (λ word. behind (codes "}") word.1 >>= λ rest. Some (word.0, rest)) x k) [
+            | went word g m ↦
+                elim (step (behind (codes "}") word.1) (λ rest. Some (word.0, rest)) x m) [
+                  | went rest j n ↦
+                      let w = word_takes inner word g in
+                      let made : List ℕ × List (List ℕ) = (word.0, rest) in
+                      subst (λ (y : List ℕ × List (List ℕ)). (tokens ≡ braced (y.0 ∷ []) ++ y.1) × (is_word y.0 ≡ true)) (some_is made x n) (follow (behind_takes (codes "{") tokens inner h) (follow w.0 (behind_takes (codes "}") word.1 rest j)), w.1)
+                ]
+          ]
+    ]
 
 pub one_listed_takes : (tokens : List (List ℕ)) (x : List ℕ × List (List ℕ)) → one_listed_at tokens ≡ Some x → Listed tokens (x.0 ∷ []) x.1
 unfolding one_listed_at

@@ -1,6 +1,6 @@
 -- How the tokens of a UPF text are read, from left to right. Each function gives what it reads at the front of the tokens,
 -- with the tokens behind it, or nothing.
-use Rattle.std.specs.Prelude.{◌≡◌, ℕ, zero, suc, Bool, true, false, cond, not, ◌&&◌, nat_le, List, [], ◌∷◌, length, codes, Option, Some, None, Result, Ok, Err, if◌then◌else◌}
+use Rattle.std.specs.Prelude.{◌≡◌, ℕ, zero, suc, Bool, false, cond, ◌&&◌, nat_le, List, [], ◌∷◌, length, codes, Option, Some, None, Result, Ok, Err, if◌then◌else◌}
 use Rattle.std.specs.Str.{bytes_eq}
 use Rattle.pe_base.specs.Walk.{Start, gap, token, bad}
 use Rattle.pe_tool.specs.declared.fault.FormFault.{FormFault}

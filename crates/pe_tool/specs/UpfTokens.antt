@@ -2,7 +2,7 @@
 -- semicolon. Behind the end of a command all is passed over up to the next command: white space, further ends, and
 -- comments, which begin with # where a command could start and end with the line. A backslash before a line's end is
 -- white space.
-use Rattle.std.specs.Prelude.{ℕ, ◌==◌, Bool, true, false, cond, not, ◌&&◌, ◌||◌, nat_le, List, [], ◌∷◌, ◌++◌, codes, if◌then◌else◌}
+use Rattle.std.specs.Prelude.{ℕ, ◌==◌, Bool, true, false, cond, not, ◌&&◌, ◌||◌, nat_le, List, [], ◌∷◌, codes, if◌then◌else◌}
 use Rattle.std.specs.List.{list_all, list_any}
 use Rattle.pe_base.specs.Walk.{Start, gap, token, bad}
 

@@ -1,4 +1,4 @@
-use Rattle.std.proofs.Common.{List, ℕ, ◌≤◌, length, arith}
+use Rattle.std.proofs.Common.{◌≤◌, length, arith}
 use Rattle.std.proofs.lemmas.Result.{err_from_is_err_and}
 use Rattle.pe_tool.proofs.UpfLaws.{answer_found, answer_only, answer_fails}
 use Rattle.pe_tool.proofs.upf.read_upf.Goals as goal

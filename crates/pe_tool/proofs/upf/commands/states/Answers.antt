@@ -1,6 +1,6 @@
-use Rattle.std.proofs.Common.{◌≡◌, ◌∷◌, [], ◌++◌, List, ℕ, Option, Some, None, refl, sym, ◌∙◌, subst, rules}
+use Rattle.std.proofs.Common.{sym, ◌∙◌}
 use Rattle.std.proofs.lemmas.Result.{err_from_is_err_and}
-use Rattle.pe_tool.proofs.UpfStates.{after, state_shorter, loop_goes_on, loop_ends, loop_done}
+use Rattle.pe_tool.proofs.UpfStates.{state_shorter, loop_goes_on, loop_ends, loop_done}
 use Rattle.pe_tool.proofs.upf.commands.states.Goals as goal
 
 pub returns-in_err-next : goal.returns-in_err-next

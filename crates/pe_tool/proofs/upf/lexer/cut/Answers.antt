@@ -25,9 +25,9 @@ places-smaller c = token_leaves c.places.rest.now c.in-Token.word.now c.in-Token
 pub places-preserved : goal.places-preserved
 places-preserved c =
     let more = reaches_token upf_start _ _ c.places.rest.now c.in-Token.word.now c.in-Token.after.now
-        (is_left _ _ c.is_empty.ensures c.places-test.true)
-        (sym c.in-Token.ensures)
-        c.places.invariant in
+    (is_left _ _ c.is_empty.ensures c.places-test.true)
+    (sym c.in-Token.ensures)
+    c.places.invariant in
     let same : c.push.new.self ≡ c.places.tokens ++ c.in-Token.word.now ∷ [] = cc (c.in_ok-push-in-Token.ensures.ok, c.in_ok-new-in-Token.ensures) in
     let P : List (List ℕ) → Type 0 = λ x. Reaches upf_start c.args.text.now x c.in-Token.after.now in
     subst P (sym same) more
@@ -47,4 +47,4 @@ returns-clause-found c =
 pub returns-clause-only : goal.returns-clause-only
 returns-clause-only c ts h =
     sym (cut_only upf_start c.args.text.now c.places.tokens refl
-        (reaches_end _ c.places.rest.now _ (is_over _ _ c.is_empty.ensures c.places-test.false) c.places.invariant) ts h)
+    (reaches_end _ c.places.rest.now _ (is_over _ _ c.is_empty.ensures c.places-test.false) c.places.invariant) ts h)
