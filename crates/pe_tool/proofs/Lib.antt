@@ -7,3 +7,9 @@ pub mod Refutes
 pub mod Headline
 pub mod Views
 pub mod Powers
+pub mod UpfStarts
+pub mod UpfWords
+pub mod UpfStates
+pub mod UpfCommands
+pub mod UpfRuns
+pub mod UpfLaws

@@ -1,4 +1,5 @@
 pub mod UpfTokens
+pub mod UpfReading
 pub mod Upf
 pub mod Intent
 pub mod Function

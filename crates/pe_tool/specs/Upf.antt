@@ -1,5 +1,5 @@
 -- What a UPF text spells: commands, each with the options that the form has, where two options stand in either order.
-use Rattle.std.specs.Prelude.{◌≡◌, ◌⊎◌, ℕ, ◌≤◌, Bool, true, false, ◌&&◌, nat_le, List, [], ◌∷◌, ◌++◌, map, length, codes, Result, Ok, Err}
+use Rattle.std.specs.Prelude.{◌≡◌, ◌⊎◌, ℕ, ◌≤◌, Bool, true, false, ◌&&◌, nat_le, List, [], ◌∷◌, ◌++◌, length, codes, Result, Ok, Err}
 use Rattle.std.specs.List.{list_all, flat_map, AllZip}
 use Rattle.pe_base.specs.Walk.{IsCut}
 use Rattle.pe_tool.specs.declared.upf.PortState.{PortState}

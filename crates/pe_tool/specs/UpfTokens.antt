@@ -2,7 +2,7 @@
 -- semicolon. Behind the end of a command all is passed over up to the next command: white space, further ends, and
 -- comments, which begin with # where a command could start and end with the line. A backslash before a line's end is
 -- white space.
-use Rattle.std.specs.Prelude.{ℕ, ◌==◌, Bool, true, false, cond, not, ◌&&◌, ◌||◌, nat_le, List, [], ◌∷◌, ◌++◌, codes, if◌then◌else◌}
+use Rattle.std.specs.Prelude.{ℕ, ◌==◌, Bool, true, false, cond, not, ◌&&◌, ◌||◌, nat_le, List, [], ◌∷◌, codes, if◌then◌else◌}
 use Rattle.std.specs.List.{list_all, list_any}
 use Rattle.pe_base.specs.Walk.{Start, gap, token, bad}
 
@@ -31,12 +31,23 @@ abbrev pub word_back : List ℕ → List ℕ
 word_back [] = []
 word_back (b ∷ bs) = cond (goes_on_word b) (word_back bs) (b ∷ bs)
 
+-- a backslash and a line's end
+abbrev pub is_continued : List ℕ → Bool
+is_continued [] = false
+is_continued (b ∷ []) = false
+is_continued (b ∷ c ∷ bs) = (b == 92) && (c == 10)
+
+-- the first byte is passed over where a command could start
+abbrev pub is_passed : List ℕ → Bool
+is_passed [] = false
+is_passed (b ∷ bs) = is_blank b || is_end b || is_continued (b ∷ bs)
+
 -- from the next command on; the flag says that a comment is being passed over
 abbrev pub next_command : Bool → List ℕ → List ℕ
 next_command inside [] = []
 next_command true (b ∷ bs) = next_command (not (b == 10)) bs
 next_command false (b ∷ bs) =
-    if is_blank b || is_end b then next_command false bs
+    if is_passed (b ∷ bs) then next_command false bs
     else if b == 35 then next_command true bs
     else b ∷ bs
 

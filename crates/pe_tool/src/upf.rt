@@ -1,10 +1,16 @@
 //! The commands of a UPF text (IEEE 1801).
 
-ghost use Rattle.std.specs.Prelude.{◌≡◌, IfOk, List};
+ghost use Rattle.std.specs.Prelude.{◌≡◌, ℕ, IfOk, List};
 ghost use Rattle.pe_tool.specs.declared.upf.Command.{Command};
 ghost use Rattle.pe_tool.specs.Upf.{IsUpf, IsUpfAnswer};
 
+mod commands;
+mod lexer;
+mod words;
+
 use crate::fault::FormFault;
+use commands::commands;
+use lexer::tokens;
 use pe_base::Name;
 use sqlite_items::Items;
 use std::alloc::Global;
@@ -65,12 +71,27 @@ pub enum Command {
     },
 }
 
+/// How long a text may be, in bytes.
+const LONGEST: usize = 16_777_216;
+
 /// The commands that a text spells. `NotBuilt` comes exactly where the text spells none in the form that is built.
-pub fn read_upf(_alloc: Global, _text: &[u8]) -> Result<Items<Command>, FormFault>
+pub fn read_upf(alloc: Global, text: &[u8]) -> Result<Items<Command>, FormFault>
     // What is read is spelled.
-    ensures found { IfOk result (λ cs. IsUpf _text.now cs) }
+    ensures found { IfOk result (λ cs. IsUpf text.now cs) }
     // What is spelled is read, unless memory runs out.
-    ensures only { (cs : List Command) → IsUpf _text.now cs → IsUpfAnswer cs result }
+    ensures only { (cs : List Command) → IsUpf text.now cs → IsUpfAnswer cs result }
 {
-    Err(FormFault::Memory)
+    if LONGEST < text.len() {
+        return Err(FormFault::NotBuilt);
+    }
+    let tokens = tokens(alloc, text)?;
+    commands(alloc, tokens.as_slice())
 }
+
+/// No text spells two lists of commands.
+pub fn one_upf()
+    ensures { (text : List ℕ) (cs ds : List Command) → IsUpf text cs → IsUpf text ds → cs ≡ ds }
+{}
+
+#[cfg(test)]
+mod upf_tests;
