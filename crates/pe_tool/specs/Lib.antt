@@ -4,6 +4,7 @@ pub mod Intent
 pub mod Function
 pub mod Cell
 pub mod Map
+pub mod MapReading
 pub mod Rows
 pub mod RtlMeaning
 pub mod NetMeaning

@@ -6,6 +6,7 @@ mod design;
 mod fault;
 mod function;
 mod intent;
+mod map;
 mod question;
 mod upf;
 
