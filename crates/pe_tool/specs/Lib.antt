@@ -1,6 +1,7 @@
 pub mod UpfTokens
 pub mod Upf
 pub mod Intent
+pub mod IntentReading
 pub mod Function
 pub mod Cell
 pub mod Map

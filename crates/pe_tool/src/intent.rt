@@ -4,6 +4,8 @@ ghost use Rattle.std.specs.Prelude.{◌≡◌, IfOk, List};
 ghost use Rattle.pe_tool.specs.declared.intent.PowerIntent.{PowerIntent};
 ghost use Rattle.pe_tool.specs.Intent.{IsIntent, IsIntentAnswer};
 
+mod parts;
+
 use crate::fault::FormFault;
 use crate::upf::Command;
 use pe_base::Name;
@@ -43,9 +45,9 @@ pub struct PowerIntent {
 }
 
 /// The power intent of the commands. `NotBuilt` comes exactly where they have none of the form that is built.
-pub fn power_intent(_alloc: Global, _commands: &[Command]) -> Result<PowerIntent, FormFault>
-    ensures found { IfOk result (λ i. IsIntent _commands.now i) }
-    ensures only { (i : PowerIntent) → IsIntent _commands.now i → IsIntentAnswer i result }
+pub fn power_intent(alloc: Global, commands: &[Command]) -> Result<PowerIntent, FormFault>
+    ensures found { IfOk result (λ i. IsIntent commands.now i) }
+    ensures only { (i : PowerIntent) → IsIntent commands.now i → IsIntentAnswer i result }
 {
     Err(FormFault::Memory)
 }
