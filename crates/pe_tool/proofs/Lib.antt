@@ -1,1 +1,3 @@
 mod MapWalks
+mod IntentLevels
+mod IntentReads

@@ -153,14 +153,14 @@ pub fn supplies(alloc: Global, commands: &[Command]) -> Result<Items<Name>, Want
 }
 
 /// Whether the command names what is there.
-fn is_sound(roots: &[Name], domain: &[u8], command: &Command) -> bool
+fn is_sound(roots: &[Name], domain: &Name, command: &Command) -> bool
     ensures { result ≡ is_sound roots.now domain.now command.now }
 {
     match command {
         Command::CreateSupplyNet {
             name: _,
             domain: other,
-        } => other.is(domain),
+        } => other.is(domain.bytes()),
         Command::ConnectSupplyNet { net, port } => net.is(port.bytes())
             && has_name(roots, net.bytes()),
         Command::AddPortState { port, states: _ } => has_name(roots, port.bytes()),
@@ -169,7 +169,7 @@ fn is_sound(roots: &[Name], domain: &[u8], command: &Command) -> bool
 }
 
 /// Whether each command names what is there.
-pub fn are_sound(roots: &[Name], domain: &[u8], commands: &[Command]) -> bool
+pub fn are_sound(roots: &[Name], domain: &Name, commands: &[Command]) -> bool
     ensures { result ≡ list_all (is_sound roots.now domain.now) commands.now }
 {
     commands
