@@ -12,7 +12,7 @@ use Rattle.pe_tool.specs.declared.intent.PowerIntent.{PowerIntent}
 use Rattle.pe_tool.specs.declared.fault.FormFault.{FormFault}
 use Rattle.pe_tool.specs.declared.fault.FormFault.TheVariants.{Memory, NotBuilt}
 use Rattle.pe_tool.specs.Intent.{tops, domains, supplies, is_sound, primaries, tables, row_words, level_of, AreLevels, IsIntent, IsIntentAnswer}
-use Rattle.pe_tool.specs.IntentReading.{◌>>=◌, Finds, the_one, levels_of, is_primary, places_of, table_of, row_of, intent_of}
+use Rattle.pe_tool.specs.IntentReading.{◌>>=◌, Finds, the_one, levels_of, is_primary, places_of, table_of, row_of, roots_of, intent_of}
 
 abbrev some : {A : Type 0} → A → Option A
 some x = Some x
@@ -151,59 +151,82 @@ row_found cs table row h = rw (h.1, levels_found cs table.1 h.0 row.levels h.2, 
 
 -- ---- the power intent
 
-abbrev made : List Command → List ℕ → ℕ × ℕ → List ℕ × List (List ℕ) → Row → PowerIntent
-made cs top places table row = record { top = top; roots = supplies cs; primary_power = places.0; primary_ground = places.1; table = map (place_of (supplies cs)) table.1; rows = row ∷ [] }
+abbrev made : List (List ℕ) → List ℕ → ℕ × ℕ → List ℕ × List (List ℕ) → Row → PowerIntent
+made roots top places table row = record { top = top; roots = roots; primary_power = places.0; primary_ground = places.1; table = map (place_of roots) table.1; rows = row ∷ [] }
 
-abbrev of_row : List Command → List ℕ → ℕ × ℕ → List ℕ × List (List ℕ) → Row → Option PowerIntent
-of_row cs top places table row = cond (length (supplies cs) == 2) (Some (made cs top places table row)) None
+abbrev of_row : List (List ℕ) → List ℕ → ℕ × ℕ → List ℕ × List (List ℕ) → Row → Option PowerIntent
+of_row roots top places table row = Some (made roots top places table row)
 
-abbrev of_table : List Command → List ℕ → ℕ × ℕ → List ℕ × List (List ℕ) → Option PowerIntent
-of_table cs top places table = row_of cs table >>= of_row cs top places table
+abbrev of_table : List Command → List (List ℕ) → List ℕ → ℕ × ℕ → List ℕ × List (List ℕ) → Option PowerIntent
+of_table cs roots top places table = row_of cs table >>= of_row roots top places table
 
-abbrev of_places : List Command → List ℕ → ℕ × ℕ → Option PowerIntent
-of_places cs top places = table_of (supplies cs) cs >>= of_table cs top places
+abbrev of_places : List Command → List (List ℕ) → List ℕ → ℕ × ℕ → Option PowerIntent
+of_places cs roots top places = table_of roots cs >>= of_table cs roots top places
+
+abbrev of_top : List Command → List (List ℕ) → List ℕ → Option PowerIntent
+of_top cs roots top = places_of roots cs >>= of_places cs roots top
+
+abbrev of_roots : List Command → List (List ℕ) → Option PowerIntent
+of_roots cs roots = the_one (tops cs) >>= of_top cs roots
+
+roots_are : (cs : List Command) (roots : List (List ℕ)) → roots_of cs ≡ Some roots → (length (supplies cs) ≡ 2) × (supplies cs ≡ roots)
+unfolding roots_of
+roots_are cs roots e =
+    let g = guard_some (length (supplies cs) == 2) (supplies cs) roots e in
+    (eqb-true (length (supplies cs)) 2 g.0, g.1)
+
+roots_found : (cs : List Command) → length (supplies cs) ≡ 2 → roots_of cs ≡ Some (supplies cs)
+unfolding roots_of
+roots_found cs e = rw e refl
+
+made_is : (cs : List Command) (top : List ℕ) (places : ℕ × ℕ) (table : List ℕ × List (List ℕ)) (row : Row) → length (supplies cs) ≡ 2 → tops cs ≡ top ∷ [] → IsPlaced (supplies cs) cs places → tables cs ≡ table ∷ [] → list_all (has_name (supplies cs)) table.1 ≡ true → IsRow cs table row → IsIntent cs (made (supplies cs) top places table row)
+made_is cs top places table row two one p t there r = record {
+  one_top = one;
+  domain = p.domain;
+  one_domain = p.one_domain;
+  roots = refl;
+  two_roots = two;
+  sound = p.sound;
+  power_net = p.power_net;
+  ground_net = p.ground_net;
+  one_primary = p.one_primary;
+  power_there = p.power_there;
+  ground_there = p.ground_there;
+  power_place = p.power_place;
+  ground_place = p.ground_place;
+  table = table.0;
+  columns = table.1;
+  one_table = t;
+  columns_there = there;
+  table_places = refl;
+  row = row;
+  words = r.0;
+  one_row = r.1;
+  levels = r.2;
+  rows = refl;
+}
+
+of_roots_is : (cs : List Command) (i : PowerIntent) → length (supplies cs) ≡ 2 → of_roots cs (supplies cs) ≡ Some i → IsIntent cs i
+of_roots_is cs i two e =
+    let a = bind_some (the_one (tops cs)) (of_top cs (supplies cs)) i e in
+    let b = bind_some (places_of (supplies cs) cs) (of_places cs (supplies cs) a.0) i a.2 in
+    let d = bind_some (table_of (supplies cs) cs) (of_table cs (supplies cs) a.0 b.0) i b.2 in
+    let f = bind_some (row_of cs d.0) (of_row (supplies cs) a.0 b.0 d.0) i d.2 in
+    let t = table_is (supplies cs) cs d.0 d.1 in
+    let is = made_is cs a.0 b.0 d.0 f.0 two (the_one_is (tops cs) a.0 a.1) (places_are (supplies cs) cs b.0 b.1) t.0 t.1 (row_is cs d.0 f.0 f.1) in
+    subst (IsIntent cs) {x = made (supplies cs) a.0 b.0 d.0 f.0} (some_is _ i f.2) is
 
 intent_is : (cs : List Command) (i : PowerIntent) → intent_of cs ≡ Some i → IsIntent cs i
 unfolding intent_of
 intent_is cs i e =
-    let a = bind_some (the_one (tops cs)) (λ top. places_of (supplies cs) cs >>= of_places cs top) i e in
-    let b = bind_some (places_of (supplies cs) cs) (of_places cs a.0) i a.2 in
-    let d = bind_some (table_of (supplies cs) cs) (of_table cs a.0 b.0) i b.2 in
-    let f = bind_some (row_of cs d.0) (of_row cs a.0 b.0 d.0) i d.2 in
-    let g = guard_some (length (supplies cs) == 2) (made cs a.0 b.0 d.0 f.0) i f.2 in
-    let p = places_are (supplies cs) cs b.0 b.1 in
-    let t = table_is (supplies cs) cs d.0 d.1 in
-    let r = row_is cs d.0 f.0 f.1 in
-    subst (IsIntent cs) {x = made cs a.0 b.0 d.0 f.0} g.1 (record {
-      one_top = the_one_is (tops cs) a.0 a.1;
-      domain = p.domain;
-      one_domain = p.one_domain;
-      roots = refl;
-      two_roots = eqb-true (length (supplies cs)) 2 g.0;
-      sound = p.sound;
-      power_net = p.power_net;
-      ground_net = p.ground_net;
-      one_primary = p.one_primary;
-      power_there = p.power_there;
-      ground_there = p.ground_there;
-      power_place = p.power_place;
-      ground_place = p.ground_place;
-      table = d.0.0;
-      columns = d.0.1;
-      one_table = t.0;
-      columns_there = t.1;
-      table_places = refl;
-      row = f.0;
-      words = r.0;
-      one_row = r.1;
-      levels = r.2;
-      rows = refl;
-    })
+    let r = bind_some (roots_of cs) (of_roots cs) i e in
+    let two = roots_are cs r.0 r.1 in
+    of_roots_is cs i two.0 (ap (of_roots cs) two.1 ∙ r.2)
 
 same_fields : (top : List ℕ) (a b : List (List ℕ)) (p q g h : ℕ) (t u : List ℕ) (v w : List Row) → a ≡ b → p ≡ q → g ≡ h → t ≡ u → v ≡ w → ◌≡◌ {A = PowerIntent} (record { top = top; roots = a; primary_power = p; primary_ground = g; table = t; rows = v }) (record { top = top; roots = b; primary_power = q; primary_ground = h; table = u; rows = w })
 same_fields top a b p q g h t u v w e1 e2 e3 e4 e5 = rw (e1, e2, e3, e4, e5) refl
 
-is_made : (cs : List Command) (i : PowerIntent) (places : ℕ × ℕ) (table : List ℕ × List (List ℕ)) (row : Row) → i.roots ≡ supplies cs → i.primary_power ≡ places.0 → i.primary_ground ≡ places.1 → i.table ≡ map (place_of (supplies cs)) table.1 → i.rows ≡ row ∷ [] → made cs i.top places table row ≡ i
+is_made : (cs : List Command) (i : PowerIntent) (places : ℕ × ℕ) (table : List ℕ × List (List ℕ)) (row : Row) → i.roots ≡ supplies cs → i.primary_power ≡ places.0 → i.primary_ground ≡ places.1 → i.table ≡ map (place_of (supplies cs)) table.1 → i.rows ≡ row ∷ [] → made (supplies cs) i.top places table row ≡ i
 is_made cs i places table row a b d e f = same_fields i.top _ _ _ _ _ _ _ _ _ _ (sym a) (sym b) (sym d) (sym e) (sym f)
 
 intent_found : (cs : List Command) (i : PowerIntent) → IsIntent cs i → intent_of cs ≡ Some i
@@ -224,7 +247,7 @@ intent_found cs i h =
       ground_place = h.ground_place;
     } in
     let r : IsRow cs table h.row = (h.words, h.one_row, h.levels) in
-    rw (h.one_top, places_found (supplies cs) cs places p, table_found (supplies cs) cs table h.one_table h.columns_there, row_found cs table h.row r, h.two_roots)
+    rw (roots_found cs h.two_roots, h.one_top, places_found (supplies cs) cs places p, table_found (supplies cs) cs table h.one_table h.columns_there, row_found cs table h.row r)
     (ap some (is_made cs i places table h.row h.roots refl refl h.table_places h.rows))
 
 -- ---- the answer

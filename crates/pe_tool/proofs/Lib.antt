@@ -1,3 +1,4 @@
 mod MapWalks
 mod IntentLevels
 mod IntentReads
+mod IntentRoots

@@ -1,6 +1,6 @@
 -- How the power intent of commands is found. Each function gives what it finds, or nothing where the commands have no such
 -- thing of the form that is built.
-use Rattle.std.specs.Prelude.{◌≡◌, ◌==◌, ◌&&◌, ℕ, Bool, List, [], ◌∷◌, ◌++◌, map, length, Option, Some, None, Result, Ok, Err, if◌then◌else◌}
+use Rattle.std.specs.Prelude.{◌≡◌, ◌==◌, ◌&&◌, ℕ, Bool, List, [], ◌∷◌, map, length, Option, Some, None, Result, Ok, Err, if◌then◌else◌}
 use Rattle.std.specs.List.{list_all}
 use Rattle.std.specs.Str.{bytes_eq}
 use Rattle.pe_base.specs.Names.{has_name, place_of}
@@ -75,11 +75,16 @@ row_of cs table = do
   levels ← levels_of cs table.1 row.2
   if bytes_eq row.1 table.0 then Some (record { name = row.0; levels = levels }) else None
 
+-- the supplies, of which there are two
+unfoldable pub roots_of : List Command → Option (List (List ℕ))
+roots_of cs = if length (supplies cs) == 2 then Some (supplies cs) else None
+
 -- the power intent
 unfoldable pub intent_of : List Command → Option PowerIntent
 intent_of cs = do
+  roots ← roots_of cs
   top ← the_one (tops cs)
-  places ← places_of (supplies cs) cs
-  table ← table_of (supplies cs) cs
+  places ← places_of roots cs
+  table ← table_of roots cs
   row ← row_of cs table
-  if length (supplies cs) == 2 then Some (record { top = top; roots = supplies cs; primary_power = places.0; primary_ground = places.1; table = map (place_of (supplies cs)) table.1; rows = row ∷ [] }) else None
+  Some (record { top = top; roots = roots; primary_power = places.0; primary_ground = places.1; table = map (place_of roots) table.1; rows = row ∷ [] })

@@ -14,7 +14,9 @@ mod parts;
 use crate::fault::FormFault;
 use crate::upf::Command;
 use levels::levels;
-use parts::{Primary, Table, are_sound, one_domain, one_primary, one_row, one_table, one_top, supplies};
+use parts::{
+    Primary, Table, are_sound, one_domain, one_primary, one_row, one_table, one_top, two_roots,
+};
 use pe_base::{Name, has_name, place_of};
 use sqlite_items::Items;
 use std::alloc::{AllocError, Global};
@@ -89,7 +91,10 @@ fn are_there(roots: &[Name], names: &[Name]) -> bool
 fn all_places(alloc: Global, roots: &[Name], names: &[Name]) -> Result<Items<usize>, AllocError>
     ensures { IfOk result (λ places. places ≡ map (place_of roots.now) names.now) }
 {
-    let places = names.iter().map(|name| place_of(roots, name.bytes())).collect(alloc)?;
+    let places = names
+        .iter()
+        .map(|name| place_of(roots, name.bytes()))
+        .collect(alloc)?;
     Ok(Items::from_vec(places))
 }
 
@@ -126,14 +131,11 @@ fn only_row(alloc: Global, commands: &[Command], table: &Table<'_>) -> Result<Ro
 fn found_intent(alloc: Global, commands: &[Command]) -> Result<PowerIntent, FormFault>
     ensures { Finds (λ i. i) result (intent_of commands.now) }
 {
-    let roots = supplies(alloc, commands)?;
+    let roots = two_roots(alloc, commands)?;
     let top = one_top(commands)?;
     let (primary_power, primary_ground) = primary_places(roots.as_slice(), commands)?;
     let table = only_table(roots.as_slice(), commands)?;
     let row = only_row(alloc, commands, &table)?;
-    if roots.len() != 2 {
-        return Err(FormFault::NotBuilt);
-    }
     let places = all_places(alloc, roots.as_slice(), table.columns)?;
     let mut rows = Items::new(alloc);
     rows.push(row)?;

@@ -27,7 +27,11 @@ fn level_among(states: &[PortState], word: &Name) -> Option<Level>
 {
     for state in states {
         if state.name.is(word.bytes()) {
-            return Some(if is_off(state.values.as_slice()) { Level::Off } else { Level::On });
+            return Some(if is_off(state.values.as_slice()) {
+                Level::Off
+            } else {
+                Level::On
+            });
         }
     }
     None
@@ -38,7 +42,10 @@ fn level_at(command: &Command, supply: &Name, word: &Name) -> Option<Level>
     ensures { result ≡ level_among (states_of supply.now (command.now ∷ [])) word.now }
 {
     match command {
-        Command::AddPortState { port, states } if port.is(supply.bytes()) => level_among(states.as_slice(), word),
+        Command::AddPortState { port, states } if port.is(supply.bytes()) => level_among(
+            states.as_slice(),
+            word,
+        ),
         _ => None,
     }
 }
@@ -59,7 +66,11 @@ fn level_in(commands: &[Command], supply: &Name, word: &Name) -> Option<Level>
 fn level_of(commands: &[Command], supply: &Name, word: &Name) -> Option<Level>
     ensures { result ≡ level_of commands.now supply.now word.now }
 {
-    if word.is(b"*") { Some(Level::Any) } else { level_in(commands, supply, word) }
+    if word.is(b"*") {
+        Some(Level::Any)
+    } else {
+        level_in(commands, supply, word)
+    }
 }
 
 /// The levels that a row's words demand of the table's supplies.

@@ -1,13 +1,13 @@
 //! The parts of a power intent of which the commands have one each.
 
-ghost use Rattle.std.specs.Prelude.{◌≡◌, IfOk};
+ghost use Rattle.std.specs.Prelude.{◌≡◌};
 ghost use Rattle.std.specs.List.{list_all};
-ghost use Rattle.pe_tool.specs.Intent.{tops, domains, made, supplies, is_sound, primaries, tables, row_words};
-ghost use Rattle.pe_tool.specs.IntentReading.{Finds, the_one, primary_seen, table_seen, words_seen};
+ghost use Rattle.pe_tool.specs.Intent.{tops, domains, is_sound, primaries, tables, row_words};
+ghost use Rattle.pe_tool.specs.IntentReading.{Finds, the_one, roots_of, primary_seen, table_seen, words_seen};
 
 use crate::fault::FormFault;
 use crate::upf::Command;
-use pe_base::{Name, Want, has_name};
+use pe_base::{Name, has_name};
 use sqlite_items::Items;
 use std::alloc::Global;
 
@@ -135,21 +135,29 @@ pub fn one_row(commands: &[Command]) -> Result<Words<'_>, FormFault>
     found.ok_or(FormFault::NotBuilt)
 }
 
-/// The supplies, in the order in which the commands first name them.
-pub fn supplies(alloc: Global, commands: &[Command]) -> Result<Items<Name>, Want>
-    ensures { IfOk result (λ names. names ≡ supplies commands.now) }
+/// The two supplies, in the order in which the commands first name them. A third ends the search, which would else take
+/// as long as there are supplies for each command.
+#[tactic(auto, unfolding(crate::specs::IntentReading::roots_of))]
+pub fn two_roots(alloc: Global, commands: &[Command]) -> Result<Items<Name>, FormFault>
+    ensures { Finds (λ names. names) result (roots_of commands.now) }
 {
-    let mut supplies = Items::new(alloc);
+    let mut roots = Items::new(alloc);
     for command in commands {
         if let Command::CreateSupplyPort { name }
         | Command::CreateSupplyNet { name, .. } = command
         {
-            if !has_name(supplies.as_slice(), name.bytes()) {
-                supplies.push(name.copy(alloc)?)?;
+            if !has_name(roots.as_slice(), name.bytes()) {
+                if roots.len() == 2 {
+                    return Err(FormFault::NotBuilt);
+                }
+                roots.push(name.copy(alloc)?)?;
             }
         }
     }
-    Ok(supplies)
+    if roots.len() != 2 {
+        return Err(FormFault::NotBuilt);
+    }
+    Ok(roots)
 }
 
 /// Whether the command names what is there.

@@ -1,7 +1,6 @@
 use Rattle.std.proofs.Common.{◌≡◌, ◌++◌, drop, option_to_list}
 use Rattle.std.specs.Option.{option_map}
 use Rattle.pe_tool.specs.Intent.{domains}
-use Rattle.pe_tool.specs.IntentReading.{the_one}
 use Rattle.pe_tool.proofs.intent.parts.one_domain.Given as goal
 
 abbrev pub invariant-loop-command : goal.invariant-loop-command
