@@ -13,3 +13,7 @@ pub mod UpfStates
 pub mod UpfCommands
 pub mod UpfRuns
 pub mod UpfLaws
+mod MapWalks
+mod IntentLevels
+mod IntentReads
+mod IntentRoots

@@ -1,9 +1,9 @@
 -- What the commands of a UPF text mean. A net and a port of one name are one supply, and no switch drives any: each
 -- supply is a root. The form that is built has one domain, which holds the top, two supplies, one table and one row.
 use Rattle.std.specs.Prelude.{◌≡◌, ℕ, Bool, true, false, cond, ◌&&◌, List, [], ◌∷◌, ◌++◌, map, length, codes, Option, Some, None, Result, Ok, Err}
-use Rattle.std.specs.List.{list_all, AllZip}
+use Rattle.std.specs.List.{list_all}
 use Rattle.std.specs.Str.{bytes_eq}
-use Rattle.pe_base.specs.Names.{has_name, are_distinct, place_of}
+use Rattle.pe_base.specs.Names.{has_name, place_of}
 use Rattle.pe_tool.specs.declared.upf.PortState.{PortState}
 use Rattle.pe_tool.specs.declared.upf.Command.{Command}
 use Rattle.pe_tool.specs.declared.upf.Command.TheVariants.{SetDesignTop, CreatePowerDomain, CreateSupplyPort, CreateSupplyNet, ConnectSupplyNet, SetDomainSupplyNet, AddPortState, CreatePst, AddPstState}

@@ -2,9 +2,11 @@ pub mod UpfTokens
 pub mod UpfReading
 pub mod Upf
 pub mod Intent
+pub mod IntentReading
 pub mod Function
 pub mod Cell
 pub mod Map
+pub mod MapReading
 pub mod Rows
 pub mod RtlMeaning
 pub mod NetMeaning

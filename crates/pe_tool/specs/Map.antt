@@ -1,7 +1,7 @@
 -- What a map text may have in the form that is built: white space (space, tab, LF) and comments, which begin with # and end
 -- with the line.
 use Rattle.std.specs.Prelude.{ℕ, ◌≤◌, ◌==◌, Bool, cond, ◌||◌, List, [], ◌∷◌, length, if◌then◌else◌}
-use Rattle.pe_base.specs.Walk.{Start, gap, token, bad, IsCut}
+use Rattle.pe_base.specs.Walk.{Start, gap, bad, IsCut}
 
 abbrev pub is_white : ℕ → Bool
 is_white b = (b == 32) || (b == 9) || (b == 10)

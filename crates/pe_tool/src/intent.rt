@@ -1,14 +1,25 @@
 //! What the commands of a UPF text mean: the supplies, the domain's, and the rows.
 
-ghost use Rattle.std.specs.Prelude.{◌≡◌, IfOk, List};
+ghost use Rattle.std.specs.Prelude.{◌≡◌, IfOk, List, map};
+ghost use Rattle.std.specs.List.{list_all};
+ghost use Rattle.pe_base.specs.Names.{has_name, place_of};
+ghost use Rattle.pe_tool.specs.declared.upf.Command.{Command};
 ghost use Rattle.pe_tool.specs.declared.intent.PowerIntent.{PowerIntent};
 ghost use Rattle.pe_tool.specs.Intent.{IsIntent, IsIntentAnswer};
+ghost use Rattle.pe_tool.specs.IntentReading.{Finds, primary_seen, table_seen, is_primary, places_of, table_of, row_of, intent_of};
+
+mod levels;
+mod parts;
 
 use crate::fault::FormFault;
 use crate::upf::Command;
-use pe_base::Name;
+use levels::levels;
+use parts::{
+    Primary, Table, are_sound, one_domain, one_primary, one_row, one_table, one_top, two_roots,
+};
+use pe_base::{Name, has_name, place_of};
 use sqlite_items::Items;
-use std::alloc::Global;
+use std::alloc::{AllocError, Global};
 
 /// What a row of the power state table demands of a supply.
 #[derive(Clone, Copy, Debug, PartialEq, Eq)]
@@ -42,10 +53,111 @@ pub struct PowerIntent {
     pub rows: Items<Row>,
 }
 
-/// The power intent of the commands. `NotBuilt` comes exactly where they have none of the form that is built.
-pub fn power_intent(_alloc: Global, _commands: &[Command]) -> Result<PowerIntent, FormFault>
-    ensures found { IfOk result (λ i. IsIntent _commands.now i) }
-    ensures only { (i : PowerIntent) → IsIntent _commands.now i → IsIntentAnswer i result }
+/// Whether the primary supplies are this domain's, and both are there.
+fn is_primary(roots: &[Name], domain: &Name, primary: &Primary<'_>) -> bool
+    ensures { result ≡ is_primary roots.now domain.now (primary_seen primary.now) }
 {
-    Err(FormFault::Memory)
+    primary.domain.is(domain.bytes())
+        && has_name(roots, primary.power_net.bytes())
+        && has_name(roots, primary.ground_net.bytes())
 }
+
+/// Where the domain's primary power and its primary ground stand among the supplies.
+#[tactic(auto, unfolding(crate::specs::IntentReading::places_of))]
+fn primary_places(roots: &[Name], commands: &[Command]) -> Result<(usize, usize), FormFault>
+    ensures { Finds (λ places. places) result (places_of roots.now commands.now) }
+{
+    let domain = one_domain(commands)?;
+    let primary = one_primary(commands)?;
+    if !are_sound(roots, domain, commands) {
+        return Err(FormFault::NotBuilt);
+    }
+    if !is_primary(roots, domain, &primary) {
+        return Err(FormFault::NotBuilt);
+    }
+    let power_place = place_of(roots, primary.power_net.bytes());
+    let ground_place = place_of(roots, primary.ground_net.bytes());
+    Ok((power_place, ground_place))
+}
+
+/// Whether all of these names are among the supplies.
+fn are_there(roots: &[Name], names: &[Name]) -> bool
+    ensures { result ≡ list_all (has_name roots.now) names.now }
+{
+    names.iter().all(|name| has_name(roots, name.bytes()))
+}
+
+/// Where the names stand among the supplies.
+fn all_places(alloc: Global, roots: &[Name], names: &[Name]) -> Result<Items<usize>, AllocError>
+    ensures { IfOk result (λ places. places ≡ map (place_of roots.now) names.now) }
+{
+    let places = names
+        .iter()
+        .map(|name| place_of(roots, name.bytes()))
+        .collect(alloc)?;
+    Ok(Items::from_vec(places))
+}
+
+/// The table, whose supplies are all there.
+#[tactic(auto, unfolding(crate::specs::IntentReading::table_of))]
+fn only_table<'a>(roots: &[Name], commands: &'a [Command]) -> Result<Table<'a>, FormFault>
+    ensures { Finds table_seen result (table_of roots.now commands.now) }
+{
+    let table = one_table(commands)?;
+    if !are_there(roots, table.columns) {
+        return Err(FormFault::NotBuilt);
+    }
+    Ok(table)
+}
+
+/// The row of the table.
+#[tactic(auto, unfolding(crate::specs::IntentReading::row_of))]
+fn only_row(alloc: Global, commands: &[Command], table: &Table<'_>) -> Result<Row, FormFault>
+    ensures { Finds (λ row. row) result (row_of commands.now (table_seen table.now)) }
+{
+    let row = one_row(commands)?;
+    let levels = levels(alloc, commands, table.columns, row.words)?;
+    if !row.table.is(table.name.bytes()) {
+        return Err(FormFault::NotBuilt);
+    }
+    Ok(Row {
+        name: row.name.copy(alloc)?,
+        levels,
+    })
+}
+
+/// The power intent of the commands, by what each part of them gives.
+#[tactic(auto, unfolding(crate::specs::IntentReading::intent_of))]
+fn found_intent(alloc: Global, commands: &[Command]) -> Result<PowerIntent, FormFault>
+    ensures { Finds (λ i. i) result (intent_of commands.now) }
+{
+    let roots = two_roots(alloc, commands)?;
+    let top = one_top(commands)?;
+    let (primary_power, primary_ground) = primary_places(roots.as_slice(), commands)?;
+    let table = only_table(roots.as_slice(), commands)?;
+    let row = only_row(alloc, commands, &table)?;
+    let places = all_places(alloc, roots.as_slice(), table.columns)?;
+    let mut rows = Items::new(alloc);
+    rows.push(row)?;
+    Ok(PowerIntent {
+        top: top.copy(alloc)?,
+        roots,
+        primary_power,
+        primary_ground,
+        table: places,
+        rows,
+    })
+}
+
+/// The power intent of the commands. `NotBuilt` comes exactly where they have none of the form that is built.
+pub fn power_intent(alloc: Global, commands: &[Command]) -> Result<PowerIntent, FormFault>
+    ensures found { IfOk result (λ i. IsIntent commands.now i) }
+    ensures only { (i : PowerIntent) → IsIntent commands.now i → IsIntentAnswer i result }
+{
+    found_intent(alloc, commands)
+}
+
+/// The law of the power intent: commands have at most one.
+pub fn one_intent()
+    ensures { (cs : List Command) (i j : PowerIntent) → IsIntent cs i → IsIntent cs j → i ≡ j }
+{}

@@ -11,6 +11,7 @@ mod function;
 mod intent;
 mod net_value;
 mod ports;
+mod map;
 mod question;
 mod rtl_value;
 mod upf;
