@@ -17,3 +17,4 @@ mod MapWalks
 mod IntentLevels
 mod IntentReads
 mod IntentRoots
+pub mod Stages

@@ -1,5 +1,5 @@
 -- When five texts give a design, and when its netlist is equivalent to its RTL.
-use Rattle.std.specs.Prelude.{◌≡◌, ℕ, Bool, true, not, List, length}
+use Rattle.std.specs.Prelude.{◌≡◌, ℕ, Bool, true, not, List, length, Result, Ok, Err}
 use Rattle.std.specs.List.{All, list_all, Contains}
 use Rattle.pe_base.specs.declared.value.Val.{Val}
 use Rattle.pe_base.specs.declared.text.Texts.{Texts}
@@ -16,6 +16,8 @@ use Rattle.pe_tool.specs.declared.upf.Command.{Command}
 use Rattle.pe_tool.specs.declared.intent.PowerIntent.{PowerIntent}
 use Rattle.pe_tool.specs.declared.intent.Row.{Row}
 use Rattle.pe_tool.specs.declared.design.Design.{Design}
+use Rattle.pe_tool.specs.declared.fault.FormFault.{FormFault}
+use Rattle.pe_tool.specs.declared.fault.FormFault.TheVariants.{Memory, NotBuilt}
 use Rattle.pe_tool.specs.Upf.{IsUpf}
 use Rattle.pe_tool.specs.Intent.{IsIntent}
 use Rattle.pe_tool.specs.Map.{IsMap}
@@ -41,6 +43,18 @@ pub record IsNetlist (l : Library) (text : List ℕ) (d : Design) : Type 0 where
   pub spelled : IsNet text d.net
   pub views : HasViews l (instances d.net.items) d.views
   pub fits : is_fit d ≡ true
+
+-- the design has this RTL module and this power intent, and the netlist text spells its netlist
+pub record IsNetlistOf (m : RtlModule) (i : PowerIntent) (l : Library) (text : List ℕ) (d : Design) : Type 0 where
+  pub rtl : d.rtl ≡ m
+  pub intent : d.intent ≡ i
+  pub netlist : IsNetlist l text d
+
+-- the answer is d, unless memory ran out
+abbrev pub IsDesignAnswer : Design → Result Design FormFault → Type 0
+IsDesignAnswer d (Ok other) = other ≡ d
+IsDesignAnswer d (Err Memory) = Unit {0}
+IsDesignAnswer d (Err NotBuilt) = ⊥
 
 -- the five texts give the design
 pub record IsDesign (t : Texts) (d : Design) : Type 0 where

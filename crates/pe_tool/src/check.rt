@@ -1,6 +1,6 @@
 //! The check of five texts by one worker.
 
-ghost use Rattle.std.specs.Prelude.{◌≡◌, ◌≤◌, not, IfOk, IfErr, Result, length};
+ghost use Rattle.std.specs.Prelude.{◌≡◌, ◌≤◌, not, true, false, IfOk, IfErr, IsErrOf, Result, length};
 ghost use Rattle.pe_base.specs.Names.{has_name};
 ghost use Rattle.pe_verilog_read.specs.Ports.{port_names};
 ghost use Rattle.pe_tool.specs.declared.intent.PowerIntent.{PowerIntent};
@@ -11,8 +11,9 @@ ghost use Rattle.pe_liberty_read.specs.Spelling.{IsLibrary};
 ghost use Rattle.pe_tool.specs.declared.question.Plain.{Plain};
 ghost use Rattle.pe_tool.specs.declared.question.CheckFault.{CheckFault};
 ghost use Rattle.pe_tool.specs.declared.design.Design.{Design};
+ghost use Rattle.pe_tool.specs.Fit.{is_fit};
 ghost use Rattle.pe_tool.specs.Map.{IsMap};
-ghost use Rattle.pe_tool.specs.Equivalent.{are_apart, IsPower, IsNetlist, IsDesign};
+ghost use Rattle.pe_tool.specs.Equivalent.{are_apart, IsPower, IsNetlist, IsNetlistOf, IsDesignAnswer, IsDesign};
 ghost use Rattle.pe_tool.specs.Outcome.{IsOutcome, IsSame, IsRefused, input_count};
 
 use crate::answer::answers;
@@ -24,8 +25,8 @@ use crate::ports::input_count;
 use crate::question::{CheckFault, Fault, Part, Plain, questions};
 use crate::upf::read_upf;
 use pe_base::Texts;
-use pe_liberty_read::{Library, read_library};
-use pe_verilog_read::{Port, RtlModule, read_net, read_rtl};
+use pe_liberty_read::{Library, one_library, read_library};
+use pe_verilog_read::{Port, RtlModule, one_net, one_rtl, read_net, read_rtl};
 use std::alloc::Global;
 
 // The RTL module of the texts.
@@ -80,5 +81,84 @@ fn power_of(alloc: Global, rtl: &RtlModule, text: &[u8]) -> Result<PowerIntent, 
                 Ok(intent)
             }
         },
+    }
+}
+
+// The power intent of the texts.
+fn intent_of(alloc: Global, texts: &Texts, rtl: &RtlModule) -> Result<PowerIntent, CheckFault>
+    requires { IsRtl texts.now.rtl rtl.now }
+    ensures built { IfOk result (λ i. IsPower rtl.now texts.now.upf i) }
+    ensures refused { IfErr result (IsRefused texts.now) }
+{
+    one_rtl();
+    match power_of(alloc, rtl, texts.upf.as_slice()) {
+        Ok(intent) => Ok(intent),
+        Err(FormFault::Memory) => Err(CheckFault::Memory),
+        Err(FormFault::NotBuilt) => Err(CheckFault::Refused(Part::Upf, Fault::NotBuilt)),
+    }
+}
+
+// The library of the texts.
+fn library_of(
+    alloc: Global,
+    texts: &Texts,
+    rtl: &RtlModule,
+    intent: &PowerIntent,
+) -> Result<Library, CheckFault>
+    requires rtl { IsRtl texts.now.rtl rtl.now }
+    requires upf { IsPower rtl.now texts.now.upf intent.now }
+    ensures built { IfOk result (λ l. IsLibrary texts.now.lib l) }
+    ensures refused { IfErr result (IsRefused texts.now) }
+{
+    let _ = (rtl, intent);
+    match read_library(alloc, texts.lib.as_slice()) {
+        Ok(library) => Ok(library),
+        Err(pe_liberty_read::ReadFault::Memory) => Err(CheckFault::Memory),
+        Err(pe_liberty_read::ReadFault::NotBuilt) => {
+            Err(CheckFault::Refused(Part::Lib, Fault::NotBuilt))
+        }
+    }
+}
+
+// The design of an RTL module, its power intent, a library and the netlist text. `NotBuilt` comes exactly where they give
+// none.
+fn netlist_of(
+    alloc: Global,
+    rtl: RtlModule,
+    intent: PowerIntent,
+    library: &Library,
+    text: &[u8],
+) -> Result<Design, FormFault>
+    ensures found { IfOk result (λ d. IsNetlistOf rtl intent library.now text.now d) }
+    ensures only { (d : Design) → IsNetlistOf rtl intent library.now text.now d → IsDesignAnswer d result }
+{
+    let net = match read_net(alloc, text) {
+        Ok(net) => net,
+        Err(pe_verilog_read::ReadFault::Memory) => return Err(FormFault::Memory),
+        Err(pe_verilog_read::ReadFault::NotBuilt) => return Err(FormFault::NotBuilt),
+    };
+    match views(alloc, library, net.items.as_slice()) {
+        Err(fault) => Err(fault),
+        Ok(views) => fitted(
+            alloc,
+            Design {
+                rtl,
+                intent,
+                net,
+                views,
+            },
+        ),
+    }
+}
+
+// The design, if its netlist fits.
+fn fitted(alloc: Global, d: Design) -> Result<Design, FormFault>
+    ensures found { IfOk result (λ r. (r ≡ d) × (is_fit d ≡ true)) }
+    ensures only { IsErrOf result FormFault.NotBuilt → is_fit d ≡ false }
+{
+    match is_fit(alloc, &d) {
+        Err(_) => Err(FormFault::Memory),
+        Ok(true) => Ok(d),
+        Ok(false) => Err(FormFault::NotBuilt),
     }
 }
