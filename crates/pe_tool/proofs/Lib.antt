@@ -18,3 +18,4 @@ mod IntentLevels
 mod IntentReads
 mod IntentRoots
 pub mod Stages
+pub mod Exact

@@ -14,17 +14,20 @@ ghost use Rattle.pe_tool.specs.declared.design.Design.{Design};
 ghost use Rattle.pe_tool.specs.Fit.{is_fit};
 ghost use Rattle.pe_tool.specs.Map.{IsMap};
 ghost use Rattle.pe_tool.specs.Equivalent.{are_apart, IsPower, IsNetlist, IsNetlistOf, IsDesignAnswer, IsDesign};
-ghost use Rattle.pe_tool.specs.Outcome.{IsOutcome, IsSame, IsRefused, input_count};
+ghost use Rattle.pe_tool.specs.Outcome.{IsBuilt, IsOutcome, IsSame, IsRefused, input_count, told_count};
+ghost use Rattle.pe_tool.specs.Questions.{questions, answers, width};
 
 use crate::answer::answers;
 use crate::design::Design;
 use crate::fault::FormFault;
 use crate::fit::{is_fit, views};
-use crate::intent::{PowerIntent, power_intent};
+use crate::cell::one_view;
+use crate::intent::{PowerIntent, one_intent, power_intent};
+use crate::map::is_map;
 use crate::ports::input_count;
 use crate::question::{CheckFault, Fault, Part, Plain, questions};
-use crate::upf::read_upf;
-use pe_base::Texts;
+use crate::upf::{one_upf, read_upf};
+use pe_base::{Texts, Want};
 use pe_liberty_read::{Library, one_library, read_library};
 use pe_verilog_read::{Port, RtlModule, one_net, one_rtl, read_net, read_rtl};
 use std::alloc::Global;
@@ -98,19 +101,11 @@ fn intent_of(alloc: Global, texts: &Texts, rtl: &RtlModule) -> Result<PowerInten
     }
 }
 
-// The library of the texts.
-fn library_of(
-    alloc: Global,
-    texts: &Texts,
-    rtl: &RtlModule,
-    intent: &PowerIntent,
-) -> Result<Library, CheckFault>
-    requires rtl { IsRtl texts.now.rtl rtl.now }
-    requires upf { IsPower rtl.now texts.now.upf intent.now }
+// The library of the texts. A refusal is right where the texts before it are of the form.
+fn library_of(alloc: Global, texts: &Texts) -> Result<Library, CheckFault>
     ensures built { IfOk result (λ l. IsLibrary texts.now.lib l) }
-    ensures refused { IfErr result (IsRefused texts.now) }
+    ensures refused { IsBuilt Part.Upf texts.now → IfErr result (IsRefused texts.now) }
 {
-    let _ = (rtl, intent);
     match read_library(alloc, texts.lib.as_slice()) {
         Ok(library) => Ok(library),
         Err(pe_liberty_read::ReadFault::Memory) => Err(CheckFault::Memory),
@@ -160,5 +155,114 @@ fn fitted(alloc: Global, d: Design) -> Result<Design, FormFault>
         Err(_) => Err(FormFault::Memory),
         Ok(true) => Ok(d),
         Ok(false) => Err(FormFault::NotBuilt),
+    }
+}
+
+// The design of the texts but for the map.
+fn net_of(
+    alloc: Global,
+    texts: &Texts,
+    rtl: RtlModule,
+    intent: PowerIntent,
+    library: &Library,
+) -> Result<Design, CheckFault>
+    requires rtl { IsRtl texts.now.rtl rtl }
+    requires upf { IsPower rtl texts.now.upf intent }
+    requires lib { IsLibrary texts.now.lib library.now }
+    ensures built { IfOk result (λ d. IsNetlistOf rtl intent library.now texts.now.net d) }
+    ensures refused { IfErr result (IsRefused texts.now) }
+{
+    one_rtl();
+    one_upf();
+    one_intent();
+    one_library();
+    one_net();
+    one_view();
+    match netlist_of(alloc, rtl, intent, library, texts.net.as_slice()) {
+        Ok(design) => Ok(design),
+        Err(FormFault::Memory) => Err(CheckFault::Memory),
+        Err(FormFault::NotBuilt) => Err(CheckFault::Refused(Part::Net, Fault::NotBuilt)),
+    }
+}
+
+// The design of the texts, in the order of their refusals.
+fn design_of(alloc: Global, texts: &Texts) -> Result<Design, CheckFault>
+    ensures built { IfOk result (IsDesign texts.now) }
+    ensures refused { IfErr result (IsRefused texts.now) }
+{
+    let rtl = match rtl_of(alloc, texts) {
+        Ok(rtl) => rtl,
+        Err(fault) => return Err(fault),
+    };
+    let intent = match intent_of(alloc, texts, &rtl) {
+        Ok(intent) => intent,
+        Err(fault) => return Err(fault),
+    };
+    let library = match library_of(alloc, texts) {
+        Ok(library) => library,
+        Err(fault) => return Err(fault),
+    };
+    let design = match net_of(alloc, texts, rtl, intent, &library) {
+        Ok(design) => design,
+        Err(fault) => return Err(fault),
+    };
+    if is_map(texts.map.as_slice()) {
+        Ok(design)
+    } else {
+        Err(CheckFault::Refused(Part::Map, Fault::NotBuilt))
+    }
+}
+
+// The questions and answers of a design.
+fn plain_of(alloc: Global, d: &Design) -> Result<Plain, Want>
+    requires fits { is_fit d.now ≡ true }
+    requires narrow { width d.now ≤ 10 }
+    ensures { IfOk result (λ p. (p.questions ≡ questions d.now) × (p.answers ≡ answers d.now)) }
+{
+    let questions = questions(alloc, d)?;
+    let answers = answers(alloc, d)?;
+    Ok(Plain { questions, answers })
+}
+
+/// The questions of a check and their answers, by trying all assignments: one question for each row and output, and for
+/// each the first assignment of the two roots and the RTL's inputs, in counting order, on which the row holds and the
+/// netlist's output does not refine the RTL's; or none.
+///
+/// `Refused` comes exactly at the first refusal: `NotBuilt` of the RTL, the UPF, the library, the netlist and the map, in
+/// this order, and then `TooWide` of the RTL, where it has over 8 inputs.
+pub fn check_alone(alloc: Global, texts: &Texts) -> Result<Plain, CheckFault>
+    // What is answered is right.
+    ensures found { IsOutcome texts.now result }
+    // What would be right is answered, unless memory runs out.
+    ensures only { (other : Result Plain CheckFault) → IsOutcome texts.now other → IsSame other result }
+{
+    one_rtl();
+    one_upf();
+    one_intent();
+    one_library();
+    one_net();
+    one_view();
+    let design = match design_of(alloc, texts) {
+        Ok(design) => design,
+        Err(fault) => return Err(fault),
+    };
+    let count = input_count(design.rtl.ports.as_slice());
+    if count > 8 {
+        let count = told_count(count);
+        return Err(CheckFault::Refused(Part::Rtl, Fault::TooWide { count }));
+    }
+    match plain_of(alloc, &design) {
+        Ok(plain) => Ok(plain),
+        Err(_) => Err(CheckFault::Memory),
+    }
+}
+
+// A count as it is told: the greatest number of 32 bits where it is more.
+fn told_count(count: usize) -> u32
+    ensures { result ≡ told_count count }
+{
+    match u32::try_from(count) {
+        Ok(told) => told,
+        Err(_) => u32::MAX,
     }
 }
