@@ -2,6 +2,7 @@ pub mod UpfTokens
 pub mod Upf
 pub mod Intent
 pub mod Function
+pub mod FunctionReading
 pub mod Cell
 pub mod Map
 pub mod Rows

@@ -4,6 +4,8 @@ ghost use Rattle.std.specs.Prelude.{◌≡◌, IfOk};
 ghost use Rattle.pe_tool.specs.declared.function.Sum.{Sum};
 ghost use Rattle.pe_tool.specs.Function.{IsSum, IsSumAnswer};
 
+mod lexer;
+
 use crate::fault::FormFault;
 use pe_base::Name;
 use sqlite_items::Items;
