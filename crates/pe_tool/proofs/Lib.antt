@@ -1,1 +1,3 @@
 pub mod FunctionStarts
+pub mod FunctionJoined
+pub mod FunctionSums
