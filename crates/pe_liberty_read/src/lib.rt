@@ -2,6 +2,7 @@
 #![tactic(auto)]
 
 mod fault;
+mod lex;
 mod library;
 
 pub use fault::ReadFault;

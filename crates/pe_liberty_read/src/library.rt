@@ -37,11 +37,11 @@ pub struct Library {
 }
 
 /// The library that a text spells. `NotBuilt` comes exactly where the text spells none in the plain spelling.
-pub fn read_library(_alloc: Global, _text: &[u8]) -> Result<Library, ReadFault>
+pub fn read_library(alloc: Global, text: &[u8]) -> Result<Library, ReadFault>
     // What is read is spelled.
-    ensures found { IfOk result (λ l. IsLibrary _text.now l) }
+    ensures found { IfOk result (λ l. IsLibrary text.now l) }
     // What is spelled is read, unless memory runs out.
-    ensures only { (l : Library) → IsLibrary _text.now l → IsLibraryAnswer l result }
+    ensures only { (l : Library) → IsLibrary text.now l → IsLibraryAnswer l result }
 {
     Err(ReadFault::Memory)
 }
