@@ -57,10 +57,13 @@ abbrev pub ◌>>=◌ : {A B : Type 0} → Option A → (A → Option B) → Opti
 None >>= f = None
 
 -- What a function returned, seen by view, is what reading gives, unless memory ran out.
+abbrev pub Fails : {Y : Type 0} → ReadFault → Option Y → Type 0
+Fails Memory read = Unit {0}
+Fails NotBuilt read = read ≡ None
+
 abbrev pub Gives : {X Y : Type 0} → (X → Y) → Result X ReadFault → Option Y → Type 0
 Gives view (Ok x) read = read ≡ Some (view x)
-Gives view (Err Memory) read = Unit {0}
-Gives view (Err NotBuilt) read = read ≡ None
+Gives view (Err e) read = Fails e read
 
 -- the tokens behind a first one that is this
 abbrev pub behind : List ℕ → List (List ℕ) → Option (List (List ℕ))
@@ -74,11 +77,25 @@ is_quoted t = nat_le 2 (length t) && (slice_index t 0 == 34) && (slice_index t (
 unfoldable pub value_of : List ℕ → Option Value
 value_of t = if is_word t then Some (Word t) else if is_quoted t then Some (Text (take (length t - 1 - 1) (drop 1 t))) else None
 
+-- a value, and what follows it
+unfoldable pub value_at : List (List ℕ) → Option (Option Value × List (List ℕ))
+value_at [] = None
+value_at (t ∷ ts) = value_of t >>= λ value. Some (Some value, ts)
+
+-- behind an argument a comma and a value, or the mark that ends the arguments
+unfoldable pub next_at : List (List ℕ) → Option (Option Value × List (List ℕ))
+next_at [] = None
+next_at (t ∷ ts) = if bytes_eq t (codes ")") then Some (None, ts) else if bytes_eq t (codes ",") then value_at ts else None
+
 -- the values behind an argument, each behind a comma, up to the mark that ends them
 unfoldable pub more_at : List (List ℕ) → Option (List Value × List (List ℕ))
 more_at [] = None
 more_at (t ∷ []) = cond (bytes_eq t (codes ")")) (Some ([], [])) None
 more_at (t ∷ v ∷ ts) = if bytes_eq t (codes ")") then Some ([], v ∷ ts) else if bytes_eq t (codes ",") then (value_of v >>= λ value. more_at ts >>= λ more. Some (value ∷ more.0, more.1)) else None
+
+-- what was read before, and what is still read
+abbrev pub with_front : List Value → Option (List Value × List (List ℕ)) → Option (List Value × List (List ℕ))
+with_front front read = read >>= λ x. Some (front ++ x.0, x.1)
 
 -- arguments and the mark that ends them
 unfoldable pub args_at : List (List ℕ) → Option (List Value × List (List ℕ))
@@ -118,9 +135,12 @@ is_end (t ∷ u ∷ ts) = false
 
 -- The statements up to the end of the library, which ends the tokens. There are fewer than this many, and so many groups
 -- are open.
+abbrev pub is_over : ℕ → List (List ℕ) → Bool
+is_over depth ts = (depth == 1) && is_end ts
+
 unfoldable pub body_at : ℕ → ℕ → List (List ℕ) → Option (List Statement)
 body_at zero depth ts = None
-body_at (suc most) depth ts = if (depth == 1) && is_end ts then Some [] else (statement_at ts >>= λ s. depth_behind depth s.0 >>= λ deeper. body_at most deeper s.1 >>= λ more. Some (s.0 ∷ more))
+body_at (suc most) depth ts = if is_over depth ts then Some [] else (statement_at ts >>= λ s. depth_behind depth s.0 >>= λ deeper. body_at most deeper s.1 >>= λ more. Some (s.0 ∷ more))
 
 unfoldable pub library_at : List (List ℕ) → Option Library
 library_at ts =

@@ -4,6 +4,7 @@
 mod fault;
 mod lex;
 mod library;
+mod parse;
 
 pub use fault::ReadFault;
 pub use library::{Library, Statement, Value, read_library};

@@ -5,9 +5,14 @@ ghost use Rattle.pe_liberty_read.specs.declared.library.Library.{Library};
 ghost use Rattle.pe_liberty_read.specs.Spelling.{IsLibrary, IsLibraryAnswer};
 
 use crate::fault::ReadFault;
+use crate::lex::lex;
+use crate::parse::library;
 use pe_base::Name;
 use sqlite_items::Items;
 use std::alloc::Global;
+
+// A file has at most so many bytes.
+const LONGEST: usize = 16_777_216;
 
 /// A value or an argument: a word as it stands, or the bytes between two quotes.
 #[derive(Debug, Drop)]
@@ -43,5 +48,9 @@ pub fn read_library(alloc: Global, text: &[u8]) -> Result<Library, ReadFault>
     // What is spelled is read, unless memory runs out.
     ensures only { (l : Library) → IsLibrary text.now l → IsLibraryAnswer l result }
 {
-    Err(ReadFault::Memory)
+    if text.len() > LONGEST {
+        return Err(ReadFault::NotBuilt);
+    }
+    let tokens = lex(alloc, text)?;
+    library(alloc, tokens.as_slice())
 }
