@@ -7,4 +7,4 @@ mod library;
 mod parse;
 
 pub use fault::ReadFault;
-pub use library::{Library, Statement, Value, read_library};
+pub use library::{Library, Statement, Value, one_library, read_library};

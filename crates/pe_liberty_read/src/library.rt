@@ -1,6 +1,6 @@
 //! A library as its statements.
 
-ghost use Rattle.std.specs.Prelude.{◌≡◌, IfOk};
+ghost use Rattle.std.specs.Prelude.{◌≡◌, List, ℕ, IfOk};
 ghost use Rattle.pe_liberty_read.specs.declared.library.Library.{Library};
 ghost use Rattle.pe_liberty_read.specs.Spelling.{IsLibrary, IsLibraryAnswer};
 
@@ -54,3 +54,8 @@ pub fn read_library(alloc: Global, text: &[u8]) -> Result<Library, ReadFault>
     let tokens = lex(alloc, text)?;
     library(alloc, tokens.as_slice())
 }
+
+/// The law of the reader: a text spells one library at most.
+pub fn one_library()
+    ensures { (text : List ℕ) (l k : Library) → IsLibrary text l → IsLibrary text k → l ≡ k }
+{}
