@@ -1,0 +1,5 @@
+pub mod Lexes
+pub mod Loops
+pub mod Values
+pub mod Statements
+pub mod Bodies

@@ -1,3 +1,4 @@
 pub mod Tokens
 pub mod Spelling
 pub mod Groups
+pub mod Reading

@@ -2,7 +2,9 @@
 #![tactic(auto)]
 
 mod fault;
+mod lex;
 mod library;
+mod parse;
 
 pub use fault::ReadFault;
-pub use library::{Library, Statement, Value, read_library};
+pub use library::{Library, Statement, Value, one_library, read_library};

@@ -1,13 +1,18 @@
 //! A library as its statements.
 
-ghost use Rattle.std.specs.Prelude.{◌≡◌, IfOk};
+ghost use Rattle.std.specs.Prelude.{◌≡◌, List, ℕ, IfOk};
 ghost use Rattle.pe_liberty_read.specs.declared.library.Library.{Library};
 ghost use Rattle.pe_liberty_read.specs.Spelling.{IsLibrary, IsLibraryAnswer};
 
 use crate::fault::ReadFault;
+use crate::lex::lex;
+use crate::parse::library;
 use pe_base::Name;
 use sqlite_items::Items;
 use std::alloc::Global;
+
+// A file has at most so many bytes.
+const LONGEST: usize = 16_777_216;
 
 /// A value or an argument: a word as it stands, or the bytes between two quotes.
 #[derive(Debug, Drop)]
@@ -37,11 +42,20 @@ pub struct Library {
 }
 
 /// The library that a text spells. `NotBuilt` comes exactly where the text spells none in the plain spelling.
-pub fn read_library(_alloc: Global, _text: &[u8]) -> Result<Library, ReadFault>
+pub fn read_library(alloc: Global, text: &[u8]) -> Result<Library, ReadFault>
     // What is read is spelled.
-    ensures found { IfOk result (λ l. IsLibrary _text.now l) }
+    ensures found { IfOk result (λ l. IsLibrary text.now l) }
     // What is spelled is read, unless memory runs out.
-    ensures only { (l : Library) → IsLibrary _text.now l → IsLibraryAnswer l result }
+    ensures only { (l : Library) → IsLibrary text.now l → IsLibraryAnswer l result }
 {
-    Err(ReadFault::Memory)
+    if text.len() > LONGEST {
+        return Err(ReadFault::NotBuilt);
+    }
+    let tokens = lex(alloc, text)?;
+    library(alloc, tokens.as_slice())
 }
+
+/// The law of the reader: a text spells one library at most.
+pub fn one_library()
+    ensures { (text : List ℕ) (l k : Library) → IsLibrary text l → IsLibrary text k → l ≡ k }
+{}
