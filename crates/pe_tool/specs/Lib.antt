@@ -4,6 +4,7 @@ pub mod Intent
 pub mod Function
 pub mod FunctionReading
 pub mod Cell
+pub mod CellReading
 pub mod Map
 pub mod Rows
 pub mod RtlMeaning
