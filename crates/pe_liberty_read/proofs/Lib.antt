@@ -3,3 +3,4 @@ pub mod Loops
 pub mod Values
 pub mod Statements
 pub mod Bodies
+pub mod Looks
