@@ -139,8 +139,15 @@ all_same : {X : Type 0} (p q : X → Bool) (xs : List X) → ((x : X) → p x �
 all_same p q [] h = refl
 all_same p q (x ∷ xs) h = rw (h x, all_same p q xs h) refl
 
+-- a test of each pin of some products
+abbrev pub all_products : (List ℕ → Bool) → List Product → Bool
+all_products p ps = list_all (λ x. list_all (λ l. p l.pin) x.literals) ps
+
+pub all_pins-flat : (p : List ℕ → Bool) (ps : List Product) → list_all p (flat_map product_pins ps) ≡ all_products p ps
+all_pins-flat p ps = list_all-flat_map product_pins p ps ∙ all_same (λ x. list_all p (product_pins x)) (λ x. list_all (λ l. p l.pin) x.literals) ps (λ x. list_all-map p (λ l. l.pin) x.literals)
+
 pins_good : (ps : List Product) → list_all is_pin (flat_map product_pins ps) ≡ list_all (λ p. list_all is_good_literal p.literals) ps
-pins_good ps = list_all-flat_map product_pins is_pin ps ∙ all_same (λ p. list_all is_pin (product_pins p)) (λ p. list_all is_good_literal p.literals) ps (λ p. list_all-map is_pin (λ l. l.pin) p.literals)
+pins_good ps = all_pins-flat is_pin ps
 
 pub good_from : (s : Sum) → list_all is_pin (sum_pins s) ≡ true → is_filled s.products ≡ true → list_all (λ p. is_filled p.literals) s.products ≡ true → is_good_sum s ≡ true
 good_from s g h k = and_both _ _ h (both_all (λ p. is_filled p.literals) (λ p. list_all is_good_literal p.literals) s.products k (sym (pins_good s.products) ∙ g))

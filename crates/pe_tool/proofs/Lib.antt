@@ -1,3 +1,5 @@
 pub mod FunctionStarts
 pub mod FunctionJoined
 pub mod FunctionSums
+pub mod CellZips
+pub mod CellViews

@@ -1,15 +1,15 @@
 -- How a cell is read from the groups of a library.
-use Rattle.std.specs.Prelude.{◌≡◌, ℕ, Bool, ◌&&◌, List, [], ◌∷◌, codes, Option, Some, Result, Ok, Err}
+use Rattle.std.specs.Prelude.{◌≡◌, ℕ, ◌+◌, ◌==◌, Bool, ◌&&◌, List, length, [], ◌∷◌, codes, Option, Some, Result, Ok, Err}
 use Rattle.std.specs.List.{list_all, AllZip}
 use Rattle.pe_base.specs.Names.{are_distinct}
 use Rattle.pe_liberty_read.specs.declared.library.Statement.{Statement}
-use Rattle.pe_liberty_read.specs.Groups.{Group}
+use Rattle.pe_liberty_read.specs.Groups.{Group, groups}
 use Rattle.pe_tool.specs.declared.function.Sum.{Sum}
 use Rattle.pe_tool.specs.declared.cell.CellView.{CellView}
 use Rattle.pe_tool.specs.declared.fault.FormFault.{FormFault}
 use Rattle.pe_tool.specs.declared.fault.FormFault.TheVariants.{Memory, NotBuilt}
 use Rattle.pe_tool.specs.Function.{IsSum}
-use Rattle.pe_tool.specs.Cell.{says, saying, HasName, IsOutput, read_pins, all_pins, reads_pins}
+use Rattle.pe_tool.specs.Cell.{says, saying, HasName, IsOutput, is_plain, read_pins, all_pins, reads_pins}
 
 -- the answer is x, unless memory ran out
 abbrev pub Gives : {X : Type 0} → X → Result X FormFault → Type 0
@@ -31,3 +31,12 @@ pub record HasPins (supplies pins : List Group) (v : CellView) : Type 0 where
 -- no two pins have one name, and each function reads inputs, the power pin and the ground pin alone
 abbrev pub are_apart : CellView → Bool
 are_apart v = are_distinct (all_pins v) && list_all (reads_pins (read_pins v)) v.outputs
+
+-- the view has all of so many pins, and they are apart
+abbrev pub is_complete : ℕ → CellView → Bool
+is_complete pins v = are_apart v && (pins == length v.inputs + length v.outputs)
+
+-- there are two supply pins, and no excluded word stands directly in the body or in its pins
+abbrev pub is_sound : List Statement → Bool
+is_sound body =
+    (length (groups (codes "pg_pin") body) == 2) && is_plain body && list_all (λ g. is_plain g.body) (groups (codes "pin") body)

@@ -9,8 +9,8 @@ mod check;
 mod group;
 mod pin;
 
-use self::check::{are_apart, is_both};
-use self::group::{are_plain, first_named, is_plain};
+use self::check::{is_complete, is_sound};
+use self::group::first_named;
 use self::pin::pins_of;
 use crate::fault::FormFault;
 use crate::function::Sum;
@@ -44,12 +44,14 @@ fn view_of(alloc: Global, body: &[Statement]) -> Result<CellView, FormFault>
     ensures only { (v : CellView) → IsView body.now v → IsCellAnswer v result }
 {
     let supplies = groups_of(alloc, b"pg_pin", body)?;
+    let supplies = supplies.as_slice();
     let pins = groups_of(alloc, b"pin", body)?;
-    if !is_plain(body) || supplies.len() != 2 || !are_plain(pins.as_slice()) {
+    let pins = pins.as_slice();
+    if !is_sound(body, supplies, pins) {
         return Err(FormFault::NotBuilt);
     }
-    let view = pins_of(alloc, supplies.as_slice(), pins.as_slice())?;
-    if is_both(pins.len(), view.inputs.len(), view.outputs.len()) && are_apart(alloc, &view)? {
+    let view = pins_of(alloc, supplies, pins)?;
+    if is_complete(alloc, pins.len(), &view)? {
         Ok(view)
     } else {
         Err(FormFault::NotBuilt)

@@ -1,9 +1,10 @@
 //! What a group of the library says.
 
-ghost use Rattle.std.specs.Prelude.{◌≡◌, ◌∷◌, [], List, ℕ, map, length, IfOk};
+ghost use Rattle.std.specs.Prelude.{◌≡◌, ◌∷◌, [], List, ℕ, map, not, IfOk};
 ghost use Rattle.std.specs.Option.{option_copied, option_map};
-ghost use Rattle.std.specs.List.{list_all, AllZip};
-ghost use Rattle.pe_liberty_read.specs.Groups.{bytes_of};
+ghost use Rattle.std.specs.List.{list_all, list_any, AllZip};
+ghost use Rattle.pe_base.specs.Names.{has_name};
+ghost use Rattle.pe_liberty_read.specs.Groups.{bytes_of, words};
 ghost use Rattle.pe_liberty_read.specs.Looking.{view};
 ghost use Rattle.pe_tool.specs.Cell.{is_named, first_named, says, is_said, saying, HasName, is_plain};
 ghost use Rattle.pe_tool.specs.CellReading.{Gives};
@@ -59,7 +60,12 @@ fn is_said(body: &[Statement], name: &[u8], bytes: &[u8]) -> bool
 }
 
 /// The groups whose attribute of the name says this.
-pub fn saying<'a>(alloc: Global, groups: &[Group<'a>], name: &[u8], bytes: &[u8]) -> Result<Vec<Group<'a>>, AllocError>
+pub fn saying<'a>(
+    alloc: Global,
+    groups: &[Group<'a>],
+    name: &[u8],
+    bytes: &[u8],
+) -> Result<Vec<Group<'a>>, AllocError>
     ensures { IfOk result (λ v. map view v.items ≡ saying name.now bytes.now (map view groups.now)) }
 {
     let mut found = Vec::new(alloc);
@@ -116,16 +122,23 @@ pub fn names_of(alloc: Global, groups: &[Group<'_>]) -> Result<Items<Name>, Form
     Ok(names)
 }
 
+/// Whether none of these words stands directly in the body.
+fn has_none(excluded: &[&[u8]], body: &[Statement]) -> bool
+    ensures { result ≡ not (list_any (has_name (map (λ w. w.now) excluded.now)) (words body.now)) }
+{
+    !has_word(excluded, body)
+}
+
 /// Whether no excluded word stands directly in the body.
 pub fn is_plain(body: &[Statement]) -> bool
     ensures { result ≡ is_plain body.now }
 {
-    !has_word(EXCLUDED, body)
+    has_none(EXCLUDED, body)
 }
 
 /// Whether no excluded word stands directly in the groups.
 pub fn are_plain(groups: &[Group<'_>]) -> bool
-    ensures { result ≡ list_all (λ g. is_plain g.body) (map view groups.now) }
+    ensures { result ≡ list_all (λ g. is_plain g.body.now) groups.now }
 {
     groups.iter().all(|group| is_plain(group.body))
 }

@@ -24,8 +24,8 @@ fn supply_pin(alloc: Global, supplies: &[Group<'_>], kind: &[u8]) -> Result<Name
     ensures only { (name : List ℕ) → AllZip HasName (saying (codes "pg_type") kind.now (map view supplies.now)) (name ∷ []) → Gives name result }
 {
     let found = saying(alloc, supplies, b"pg_type", kind)?;
-    match found.as_slice() {
-        [group] => name_of(alloc, group.args),
+    match found.as_slice().split_first() {
+        Some((group, others)) if others.is_empty() => name_of(alloc, group.args),
         _ => Err(FormFault::NotBuilt),
     }
 }
@@ -70,7 +70,11 @@ fn outputs_of(alloc: Global, groups: &[Group<'_>]) -> Result<Items<CellOutput>, 
 }
 
 /// The pins of the cell that has these groups.
-pub fn pins_of(alloc: Global, supplies: &[Group<'_>], pins: &[Group<'_>]) -> Result<CellView, FormFault>
+pub fn pins_of(
+    alloc: Global,
+    supplies: &[Group<'_>],
+    pins: &[Group<'_>],
+) -> Result<CellView, FormFault>
     ensures found { IfOk result (λ v. HasPins (map view supplies.now) (map view pins.now) v) }
     ensures only { (v : CellView) → HasPins (map view supplies.now) (map view pins.now) v → Gives v result }
 {
