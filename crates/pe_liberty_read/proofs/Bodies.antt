@@ -1,9 +1,8 @@
 -- A library that is read is spelled so, and one that is spelled is read.
-use Rattle.std.proofs.Common.{◌≡◌, ℕ, zero, suc, ◌+◌, ◌-◌, ◌<◌, ◌≤◌, Bool, true, false, cond, ◌&&◌, ◌⊎◌, inl, inr, eqb, leb, List, [], ◌∷◌, ◌++◌, length, Option, Some, None, Result, Ok, Err, refl, sym, ap, ◌∙◌, subst, append_assoc, arith, codes}
+use Rattle.std.proofs.Common.{◌≡◌, ℕ, zero, suc, ◌+◌, ◌-◌, ◌<◌, ◌≤◌, Bool, true, false, ◌&&◌, inl, inr, eqb, leb, List, [], ◌∷◌, ◌++◌, length, Option, Some, None, Result, Ok, Err, refl, sym, ap, ◌∙◌, subst, append_assoc, arith, codes}
 use Rattle.std.specs.Prelude.{IfOk}
-use Rattle.std.specs.List.{list_all, flat_map}
+use Rattle.std.specs.List.{flat_map}
 use Rattle.std.proofs.lemmas.List.{length-append}
-use Rattle.std.proofs.lemmas.Bool.{eqb-true}
 use Rattle.pe_base.specs.Walk.{IsCut}
 use Rattle.pe_base.proofs.Walks.{one_cut}
 use Rattle.pe_liberty_read.specs.declared.fault.ReadFault.{ReadFault}
@@ -12,8 +11,8 @@ use Rattle.pe_liberty_read.specs.declared.library.Value.{Value}
 use Rattle.pe_liberty_read.specs.declared.library.Statement.{Statement}
 use Rattle.pe_liberty_read.specs.declared.library.Statement.TheVariants.{Open, Close, Simple, Complex}
 use Rattle.pe_liberty_read.specs.declared.library.Library.{Library}
-use Rattle.pe_liberty_read.specs.Tokens.{is_word, liberty_start}
-use Rattle.pe_liberty_read.specs.Spelling.{value_words, with_commas, call_tokens, statement_tokens, statement_words, library_tokens, library_words, is_nested, IsLibrary, IsLibraryAnswer}
+use Rattle.pe_liberty_read.specs.Tokens.{liberty_start}
+use Rattle.pe_liberty_read.specs.Spelling.{value_words, with_commas, statement_tokens, statement_words, library_tokens, library_words, is_nested, IsLibrary, IsLibraryAnswer}
 use Rattle.pe_liberty_read.specs.Reading.{◌>>=◌, Gives, IsCutAnswer, behind, args_at, statement_at, depth_behind, is_end, is_over, body_at, library_at}
 use Rattle.pe_liberty_read.proofs.Values.{some_is, bind_some, guard, none_is, and_both, and_join, bytes_same, AreWords, words_both, words_parts, behind_takes, args_takes, args_again}
 use Rattle.pe_liberty_read.proofs.Statements.{statement_takes, statement_again}
@@ -47,6 +46,9 @@ nested_is_deeper depth (Complex name args) ss e = (depth, refl, e)
 abbrev BodyTakes : ℕ → List (List ℕ) → List Statement → Type 0
 BodyTakes depth ts ss = (ts ≡ flat_map statement_tokens ss ++ codes "}" ∷ []) × AreWords (flat_map statement_words ss) × (is_nested depth ss ≡ true)
 
+joined : (ts front back rest : List (List ℕ)) → ts ≡ front ++ rest → rest ≡ back ++ codes "}" ∷ [] → ts ≡ front ++ back ++ codes "}" ∷ []
+joined ts front back rest p q = p ∙ ap (λ us. front ++ us) q ∙ sym (append_assoc front back (codes "}" ∷ []))
+
 body_takes : (most depth : ℕ) (ts : List (List ℕ)) (ss : List Statement) → body_at most depth ts ≡ Some ss → BodyTakes depth ts ss
 unfolding body_at
 body_takes zero depth ts ss e = absurd (none_is ss e)
@@ -63,7 +65,7 @@ body_takes (suc most) depth ts ss e =
           let s = statement_takes ts a.0 a.1 in
           let h = body_takes most b.0 a.0.1 c.0 c.1 in
           subst (BodyTakes depth ts) (some_is (a.0.0 ∷ c.0) ss c.2) (
-            s.0 ∙ ap (λ us. statement_tokens a.0.0 ++ us) h.0 ∙ sym (append_assoc (statement_tokens a.0.0) (flat_map statement_tokens c.0) (codes "}" ∷ [])),
+            joined ts (statement_tokens a.0.0) (flat_map statement_tokens c.0) a.0.1 s.0 h.0,
             words_both (statement_words a.0.0) (flat_map statement_words c.0) s.1 h.1,
             deeper_is_nested depth a.0.0 b.0 c.0 b.1 h.2,
           )
@@ -137,10 +139,10 @@ library_takes ts l e =
     let open_args : a.0 ≡ codes "(" ∷ b.0 = behind_takes (codes "(") a.0 b.0 b.1 in
     let brace : c.0.1 ≡ codes "{" ∷ d.0 = behind_takes (codes "{") c.0.1 d.0 d.1 in
     let whole : ts ≡ library_tokens made =
-        behind_takes (codes "library") ts a.0 a.1 ∙ ap (λ us. codes "library" ∷ us) open_args
-        ∙ ap (λ us. codes "library" ∷ codes "(" ∷ us) args.0
-        ∙ ap (λ us. codes "library" ∷ codes "(" ∷ (with_commas c.0.0 ++ codes ")" ∷ us)) (brace ∙ ap (λ us. codes "{" ∷ us) body.0)
-        ∙ sym (library_regrouped made) in
+    behind_takes (codes "library") ts a.0 a.1 ∙ ap (λ us. codes "library" ∷ us) open_args
+    ∙ ap (λ us. codes "library" ∷ codes "(" ∷ us) args.0
+    ∙ ap (λ us. codes "library" ∷ codes "(" ∷ (with_commas c.0.0 ++ codes ")" ∷ us)) (brace ∙ ap (λ us. codes "{" ∷ us) body.0)
+    ∙ sym (library_regrouped made) in
     subst (Spells ts) (some_is made l f.2) (record { spelled = whole; worded = words_both (flat_map value_words c.0.0) (flat_map statement_words f.0) args.1 body.1; nested = body.2 })
 
 library_again : (l : Library) → AreWords (library_words l) → is_nested 1 l.body ≡ true → library_at (library_tokens l) ≡ Some l

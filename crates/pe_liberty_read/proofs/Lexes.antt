@@ -1,7 +1,7 @@
 -- The lengths that are read are those of what starts at a place.
-use Rattle.std.proofs.Common.{◌≡◌, ◌≢◌, ℕ, zero, suc, ◌+◌, Bool, true, false, cond, ◌&&◌, ◌||◌, eqb, List, [], ◌∷◌, ◌++◌, length, take, drop, get_or, refl, sym, ap, ◌∙◌, subst, append_assoc, arith}
+use Rattle.std.proofs.Common.{◌≡◌, ◌≢◌, ℕ, zero, suc, Bool, true, false, cond, ◌&&◌, ◌||◌, eqb, List, [], ◌∷◌, ◌++◌, take, drop, get_or, refl, sym, ap, ◌∙◌, subst, append_assoc, arith}
 use Rattle.std.proofs.lemmas.Bool.{eqb-true}
-use Rattle.pe_base.specs.Walk.{Start, gap, token, bad, IsCut}
+use Rattle.pe_base.specs.Walk.{gap, token, bad, IsCut}
 use Rattle.pe_base.proofs.Walks.{Reaches, reaches_gap, reaches_token, cut_bad}
 use Rattle.pe_liberty_read.specs.Tokens.{is_white, is_mark, ends_word, begins_comment, word_front, word_back, quoted, meets_semicolon, liberty_start}
 use Rattle.pe_liberty_read.specs.Reading.{white_len, has_line_end, begins_semicolon, word_len, close_at, quoted_len, token_len}

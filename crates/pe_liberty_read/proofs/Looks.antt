@@ -1,16 +1,15 @@
 -- What is found statement by statement is what stands directly in a body.
-use Rattle.std.proofs.Common.{◌≡◌, ℕ, zero, suc, ◌+◌, ◌-◌, ◌<◌, ◌≤◌, Bool, true, false, cond, ◌&&◌, ◌||◌, eqb, List, [], ◌∷◌, ◌++◌, length, map, take, drop, Option, Some, None, refl, sym, ap, ◌∙◌, subst, append_assoc, arith}
+use Rattle.std.proofs.Common.{◌≡◌, ℕ, zero, suc, ◌+◌, ◌-◌, ◌<◌, Bool, true, false, ◌&&◌, eqb, List, [], ◌∷◌, length, take, drop, Some, None, refl, sym, ap, ◌∙◌, subst, arith}
 use Rattle.std.proofs.lemmas.Bool.{eqb-true}
 use Rattle.std.proofs.lemmas.List.{length-drop}
 use Rattle.std.specs.Borrow.{Bor}
 use Rattle.std.specs.List.{list_any}
-use Rattle.std.specs.Str.{bytes_eq}
 use Rattle.pe_liberty_read.specs.declared.library.Value.{Value}
 use Rattle.pe_liberty_read.specs.declared.library.Statement.{Statement}
 use Rattle.pe_liberty_read.specs.declared.library.Statement.TheVariants.{Open, Close, Simple, Complex}
 use Rattle.pe_liberty_read.specs.Groups.{Group, inside, groups_at, attributes_at, words_at}
 use Rattle.pe_liberty_read.proofs.Values.{and_both, some_is, none_is}
-use Rattle.pe_liberty_read.specs.Looking.{deep_behind, is_open, is_close, is_attribute, first_value, first_of, value_in, is_among, says_word, open_place, inside_len, first_at, says_at, open_args, opened}
+use Rattle.pe_liberty_read.specs.Looking.{deep_behind, is_open, is_close, is_attribute, first_of, value_in, is_among, says_word, open_place, inside_len, first_at, says_at, opened}
 
 and_false_right : (a b : Bool) → a ≡ true → (a && b) ≡ false → b ≡ false
 and_false_right true b p e = e

@@ -1,16 +1,14 @@
 -- What is read of the tokens of statements is spelled so, and what is spelled so is read.
-use Rattle.std.proofs.Common.{◌≡◌, ℕ, zero, suc, ◌+◌, ◌-◌, ◌<◌, ◌≤◌, Bool, true, false, cond, ◌&&◌, ◌⊎◌, inl, inr, eqb, leb, List, [], ◌∷◌, ◌++◌, length, Option, Some, None, refl, sym, ap, ◌∙◌, subst, append_assoc, arith, codes}
+use Rattle.std.proofs.Common.{◌≡◌, ℕ, true, cond, inl, inr, List, [], ◌∷◌, ◌++◌, Option, Some, None, refl, sym, ap, ◌∙◌, subst, append_assoc, codes}
 use Rattle.std.specs.List.{list_all, flat_map}
 use Rattle.std.specs.Str.{bytes_eq}
-use Rattle.std.proofs.lemmas.List.{length-append}
 use Rattle.pe_liberty_read.specs.declared.library.Value.{Value}
 use Rattle.pe_liberty_read.specs.declared.library.Statement.{Statement}
 use Rattle.pe_liberty_read.specs.declared.library.Statement.TheVariants.{Open, Close, Simple, Complex}
-use Rattle.pe_liberty_read.specs.declared.library.Library.{Library}
 use Rattle.pe_liberty_read.specs.Tokens.{is_word}
-use Rattle.pe_liberty_read.specs.Spelling.{value_token, value_words, with_commas, call_tokens, statement_tokens, statement_words, library_tokens, library_words, is_nested}
-use Rattle.pe_liberty_read.specs.Reading.{◌>>=◌, behind, value_of, args_at, call_end, simple_at, named_at, statement_at, depth_behind, is_end, is_over, body_at, library_at}
-use Rattle.pe_liberty_read.proofs.Values.{some_is, bind_some, guard, none_is, and_both, and_join, bytes_same, not_mark, AreWords, words_both, words_parts, value_takes, value_again, behind_takes, ArgsTake, args_takes, args_again}
+use Rattle.pe_liberty_read.specs.Spelling.{value_token, value_words, with_commas, call_tokens, statement_tokens, statement_words}
+use Rattle.pe_liberty_read.specs.Reading.{◌>>=◌, behind, value_of, args_at, call_end, simple_at, named_at, statement_at}
+use Rattle.pe_liberty_read.proofs.Values.{some_is, bind_some, guard, none_is, and_both, and_join, bytes_same, not_mark, AreWords, value_takes, value_again, behind_takes, args_takes, args_again}
 
 -- the tokens are a statement, and what follows
 abbrev pub Takes : List (List ℕ) → Statement × List (List ℕ) → Type 0

@@ -1,7 +1,6 @@
 -- Reading from left to right: how long each part is, and what each group of tokens says.
-use Rattle.std.specs.Prelude.{◌≡◌, ℕ, zero, suc, ◌+◌, ◌-◌, ◌==◌, Bool, true, false, cond, not, ◌&&◌, ◌||◌, List, [], ◌∷◌, ◌++◌, length, take, drop, slice_index, codes, nat_le, nat_lt, Option, Some, None, Result, Ok, Err, if◌then◌else◌}
+use Rattle.std.specs.Prelude.{◌≡◌, ℕ, zero, suc, ◌+◌, ◌-◌, ◌==◌, Bool, false, cond, ◌&&◌, ◌||◌, List, [], ◌∷◌, ◌++◌, length, take, drop, slice_index, codes, nat_le, Option, Some, None, Result, Ok, Err, if◌then◌else◌}
 use Rattle.std.specs.Str.{bytes_eq}
-use Rattle.pe_base.specs.Walk.{IsCut}
 use Rattle.pe_liberty_read.specs.declared.library.Value.{Value}
 use Rattle.pe_liberty_read.specs.declared.library.Value.TheVariants.{Word, Text}
 use Rattle.pe_liberty_read.specs.declared.library.Statement.{Statement}
@@ -9,7 +8,7 @@ use Rattle.pe_liberty_read.specs.declared.library.Statement.TheVariants.{Open, C
 use Rattle.pe_liberty_read.specs.declared.library.Library.{Library}
 use Rattle.pe_liberty_read.specs.declared.fault.ReadFault.{ReadFault}
 use Rattle.pe_liberty_read.specs.declared.fault.ReadFault.TheVariants.{Memory, NotBuilt}
-use Rattle.pe_liberty_read.specs.Tokens.{liberty_start, is_white, is_mark, ends_word, begins_comment, is_word}
+use Rattle.pe_liberty_read.specs.Tokens.{is_white, is_mark, ends_word, begins_comment, is_word}
 
 -- how much white space a text begins with
 abbrev pub white_len : List ℕ → ℕ

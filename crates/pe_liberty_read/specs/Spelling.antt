@@ -2,9 +2,8 @@
 --   group = word "(" [ arg { "," arg } ] ")" "{" { stmt } "}"
 --   stmt = group | word ":" value ";" | word "(" [ arg { "," arg } ] ")" ";"
 -- with one group `library`, whose groups are nested at most 16 deep, the library counting itself.
-use Rattle.std.specs.Prelude.{◌≡◌, ℕ, ◌+◌, ◌-◌, ◌≤◌, ◌==◌, Bool, true, false, ◌&&◌, List, [], ◌∷◌, ◌++◌, length, codes, nat_le, Result, Ok, Err}
-use Rattle.std.specs.List.{list_all, flat_map, filter}
-use Rattle.std.specs.Str.{bytes_eq}
+use Rattle.std.specs.Prelude.{◌≡◌, ℕ, ◌+◌, ◌-◌, ◌≤◌, ◌==◌, Bool, true, ◌&&◌, List, [], ◌∷◌, ◌++◌, length, codes, nat_le, Result, Ok, Err}
+use Rattle.std.specs.List.{list_all, flat_map}
 use Rattle.pe_base.specs.Walk.{IsCut}
 use Rattle.pe_liberty_read.specs.declared.library.Value.{Value}
 use Rattle.pe_liberty_read.specs.declared.library.Value.TheVariants.{Word, Text}

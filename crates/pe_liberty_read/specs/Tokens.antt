@@ -1,7 +1,7 @@
 -- The tokens of a Liberty text in the plain spelling: words, quoted texts, and the marks ( ) { } : ; and the comma. White
 -- space is space, tab, CR, LF and FF. The plain spelling has no comment and no backslash, and no line ends before a
 -- semicolon, since in Liberty the end of a line may itself end a statement.
-use Rattle.std.specs.Prelude.{ℕ, ◌==◌, Bool, true, false, cond, not, ◌&&◌, ◌||◌, List, [], ◌∷◌, ◌++◌, codes, if◌then◌else◌}
+use Rattle.std.specs.Prelude.{ℕ, ◌==◌, Bool, false, cond, not, ◌&&◌, ◌||◌, List, [], ◌∷◌, ◌++◌, codes, if◌then◌else◌}
 use Rattle.std.specs.List.{list_all, list_any}
 use Rattle.pe_base.specs.Walk.{Start, gap, token, bad}
 

@@ -18,7 +18,11 @@ pub struct Group<'a> {
 }
 
 /// The groups of a kind that stand directly in a body, in text order.
-pub fn groups_of<'a>(alloc: Global, kind: &[u8], body: &'a [Statement]) -> Result<Vec<Group<'a>>, AllocError>
+pub fn groups_of<'a>(
+    alloc: Global,
+    kind: &[u8],
+    body: &'a [Statement],
+) -> Result<Vec<Group<'a>>, AllocError>
     ensures { IfOk result (λ v. map view v.items ≡ groups kind.now body.now) }
 {
     let mut found = Vec::new(alloc);
@@ -168,7 +172,9 @@ fn is_attribute(name: &[u8], statement: &Statement) -> bool
     ensures { result ≡ is_attribute name.now statement.now }
 {
     match statement {
-        Statement::Simple { name: other, .. } | Statement::Complex { name: other, .. } => other.is(name),
+        Statement::Simple { name: other, .. } | Statement::Complex { name: other, .. } => other.is(
+            name,
+        ),
         _ => false,
     }
 }
@@ -188,9 +194,9 @@ fn says_word(names: &[&[u8]], statement: &Statement) -> bool
     ensures { result ≡ says_word names.now statement.now }
 {
     match statement {
-        Statement::Open { kind: name, .. } | Statement::Simple { name, .. } | Statement::Complex { name, .. } => {
-            is_among(names, name)
-        }
+        Statement::Open { kind: name, .. }
+        | Statement::Simple { name, .. }
+        | Statement::Complex { name, .. } => { is_among(names, name) }
         Statement::Close => false,
     }
 }

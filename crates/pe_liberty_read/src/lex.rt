@@ -116,7 +116,11 @@ fn quoted_len(text: &[u8]) -> usize
     ensures within { result ≤ length text.now + 1 }
 {
     let end = close_at(text);
-    if end < text.len() && text[end] == b'"' { end + 2 } else { 0 }
+    if end < text.len() && text[end] == b'"' {
+        end + 2
+    } else {
+        0
+    }
 }
 
 // The place of the first quote or backslash.

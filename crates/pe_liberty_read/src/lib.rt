@@ -10,3 +10,6 @@ mod parse;
 pub use fault::ReadFault;
 pub use groups::{Group, first_attribute, groups_of, has_word};
 pub use library::{Library, Statement, Value, one_library, read_library};
+
+#[cfg(test)]
+mod tests;

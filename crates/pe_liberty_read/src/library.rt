@@ -2,6 +2,7 @@
 
 ghost use Rattle.std.specs.Prelude.{◌≡◌, List, ℕ, IfOk};
 ghost use Rattle.pe_liberty_read.specs.declared.library.Library.{Library};
+ghost use Rattle.pe_liberty_read.specs.Groups.{bytes_of};
 ghost use Rattle.pe_liberty_read.specs.Spelling.{IsLibrary, IsLibraryAnswer};
 
 use crate::fault::ReadFault;
@@ -19,6 +20,18 @@ const LONGEST: usize = 16_777_216;
 pub enum Value {
     Word(Name),
     Text(Name),
+}
+
+impl Value {
+    /// Its bytes, with no quotes.
+    pub fn bytes(&self) -> &[u8]
+        ensures { result.now ≡ bytes_of self.now }
+    {
+        match self {
+            Value::Word(word) => word.bytes(),
+            Value::Text(text) => text.bytes(),
+        }
+    }
 }
 
 /// A statement of a library. A group is its opening, what stands in it, and its end.

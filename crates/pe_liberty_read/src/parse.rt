@@ -96,7 +96,11 @@ fn statement(alloc: Global, tokens: &[Name]) -> Result<(Statement, &[Name]), Rea
 
 // A statement that begins with this word.
 #[tactic(auto, unfolding(crate::specs::Reading::named_at))]
-fn named<'a>(alloc: Global, name: &Name, tokens: &'a [Name]) -> Result<(Statement, &'a [Name]), ReadFault>
+fn named<'a>(
+    alloc: Global,
+    name: &Name,
+    tokens: &'a [Name],
+) -> Result<(Statement, &'a [Name]), ReadFault>
     ensures { Gives (λ x. (x.0, x.1.now)) result (named_at name.now tokens.now) }
 {
     match tokens {
@@ -115,7 +119,11 @@ fn named<'a>(alloc: Global, name: &Name, tokens: &'a [Name]) -> Result<(Statemen
 }
 
 #[tactic(auto, unfolding(crate::specs::Reading::simple_at))]
-fn simple<'a>(alloc: Global, name: &Name, tokens: &'a [Name]) -> Result<(Statement, &'a [Name]), ReadFault>
+fn simple<'a>(
+    alloc: Global,
+    name: &Name,
+    tokens: &'a [Name],
+) -> Result<(Statement, &'a [Name]), ReadFault>
     ensures { Gives (λ x. (x.0, x.1.now)) result (simple_at name.now tokens.now) }
 {
     match tokens {
@@ -167,7 +175,11 @@ fn args(alloc: Global, tokens: &[Name]) -> Result<(Items<Value>, &[Name]), ReadF
 }
 
 // The arguments, with those that stand behind commas, and what follows the mark that ends them.
-fn more_args(alloc: Global, args: Items<Value>, tokens: &[Name]) -> Result<(Items<Value>, &[Name]), ReadFault>
+fn more_args(
+    alloc: Global,
+    args: Items<Value>,
+    tokens: &[Name],
+) -> Result<(Items<Value>, &[Name]), ReadFault>
     ensures { Gives (λ x. (x.0, x.1.now)) result (with_front args (more_at tokens.now)) }
 {
     let mut args = args;

@@ -1,5 +1,4 @@
-use Rattle.std.proofs.Common.{◌≡◌, drop, take, ◌∙◌, ap, ℕ}
-use Rattle.pe_liberty_read.specs.Looking.{open_place, inside_len}
+use Rattle.std.proofs.Common.{drop, take, ◌∙◌, ap, ℕ}
 use Rattle.pe_liberty_read.proofs.Looks.{no_group, one_group}
 use Rattle.pe_liberty_read.proofs.groups.next_group.Goals as goal
 

@@ -1,4 +1,4 @@
-use Rattle.std.proofs.Common.{◌≡◌, ◌+◌, drop}
+use Rattle.std.proofs.Common.{◌≡◌, drop}
 use Rattle.pe_liberty_read.specs.Reading.{has_line_end}
 use Rattle.pe_liberty_read.proofs.lex.has_line_end.Given as goal
 

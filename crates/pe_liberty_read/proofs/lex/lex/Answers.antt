@@ -1,4 +1,4 @@
-use Rattle.std.proofs.Common.{rules, ◌≡◌, ◌≢◌, ◌≤◌, ◌+◌, ◌&&◌, List, ℕ, length, [], ◌∷◌, ◌++◌, take, drop, true, false, Bool, eqb, sym, ◌∙◌, subst, refl, arith}
+use Rattle.std.proofs.Common.{rules, ◌≡◌, ◌≢◌, ◌&&◌, List, ℕ, length, [], ◌∷◌, ◌++◌, take, drop, true, false, Bool, eqb, sym, ◌∙◌, subst, refl}
 use Rattle.std.proofs.lemmas.Bool.{eqb-true}
 use Rattle.std.proofs.lemmas.List.{nil_from_length}
 use Rattle.pe_base.proofs.Walks.{Reaches, reaches_start, cut_found, cut_only}

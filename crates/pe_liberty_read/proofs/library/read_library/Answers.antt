@@ -1,4 +1,4 @@
-use Rattle.std.proofs.Common.{◌≡◌, ◌≤◌, length, sym, ◌∙◌, subst, arith}
+use Rattle.std.proofs.Common.{◌≡◌, subst, arith}
 use Rattle.std.proofs.lemmas.Result.{err_from_is_err_and}
 use Rattle.pe_liberty_read.specs.Reading.{Gives, library_at}
 use Rattle.pe_liberty_read.proofs.Bodies.{is_found, is_only, no_tokens}

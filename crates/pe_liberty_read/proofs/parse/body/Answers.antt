@@ -1,6 +1,6 @@
-use Rattle.std.proofs.Common.{◌≡◌, ◌++◌, ◌∷◌, [], length, sym, ◌∙◌, true, false}
+use Rattle.std.proofs.Common.{length, sym, ◌∙◌}
 use Rattle.std.proofs.lemmas.Result.{err_from_is_err_and}
-use Rattle.pe_liberty_read.specs.Reading.{body_at, is_over}
+use Rattle.pe_liberty_read.specs.Reading.{body_at}
 use Rattle.pe_liberty_read.proofs.Loops.{body_ends, statement_fails, depth_fails, body_goes_on, body_is_short}
 use Rattle.pe_liberty_read.proofs.parse.body.Goals as goal
 
