@@ -1,7 +1,7 @@
 -- A library gives a name one view at most.
-use Rattle.std.proofs.Common.{◌≡◌, ℕ, Bool, true, false, cond, not, ◌&&◌, ◌||◌, ◌==◌, ◌+◌, length, List, [], ◌∷◌, ◌++◌, map, codes, Option, Some, None, Result, Ok, Err, IfOk, refl, sym, ap, ◌∙◌, subst}
+use Rattle.std.proofs.Common.{◌≡◌, ℕ, Bool, true, false, ◌&&◌, ◌==◌, ◌+◌, length, List, [], ◌∷◌, map, codes, Some, Result, Ok, Err, IfOk, refl, sym, ap, ◌∙◌, subst}
 use Rattle.std.specs.Borrow.{Bor}
-use Rattle.std.specs.List.{list_all, list_any, filter, AllZip}
+use Rattle.std.specs.List.{list_all, list_any}
 use Rattle.std.specs.Option.{option_map}
 use Rattle.std.specs.Str.{bytes_eq}
 use Rattle.std.proofs.lemmas.Slice.Eq.{bytes_eq-Decides}
@@ -13,14 +13,14 @@ use Rattle.pe_liberty_read.specs.declared.library.Value.{Value}
 use Rattle.pe_liberty_read.specs.declared.library.Library.{Library}
 use Rattle.pe_liberty_read.specs.declared.library.Statement.{Statement}
 use Rattle.pe_liberty_read.specs.declared.groups.Group as code
-use Rattle.pe_liberty_read.specs.Groups.{bytes_of, Group, groups, attributes, words}
+use Rattle.pe_liberty_read.specs.Groups.{bytes_of, Group, groups, attributes}
 use Rattle.pe_liberty_read.specs.Looking.{first_of, is_among, view}
 use Rattle.pe_tool.specs.declared.function.Sum.{Sum}
 use Rattle.pe_tool.specs.declared.cell.CellOutput.{CellOutput}
 use Rattle.pe_tool.specs.declared.cell.CellView.{CellView}
 use Rattle.pe_tool.specs.declared.fault.FormFault.{FormFault}
 use Rattle.pe_tool.specs.Function.{IsSum}
-use Rattle.pe_tool.specs.Cell.{first_value, says, saying, HasName, IsOutput, excluded, is_plain, is_named, first_named, IsView, IsCell, read_pins, all_pins, reads_pins}
+use Rattle.pe_tool.specs.Cell.{first_value, says, HasName, IsOutput, is_plain, first_named, IsView, IsCell, read_pins, all_pins, reads_pins}
 use Rattle.pe_tool.specs.declared.fault.FormFault.TheVariants.{Memory, NotBuilt}
 use Rattle.pe_tool.specs.CellReading.{Gives, SaysSum, HasPins, is_sound, is_complete, are_apart}
 use Rattle.pe_tool.proofs.FunctionSums.{one_sum}

@@ -1,17 +1,16 @@
 -- The tokens of one sum of products are those of no other.
-use Rattle.std.proofs.Common.{◌≡◌, ◌≢◌, ℕ, ◌≤◌, Bool, true, false, cond, ◌&&◌, List, [], ◌∷◌, ◌++◌, map, codes, Option, Some, None, refl, sym, ap, ◌∙◌, subst, append-nil}
+use Rattle.std.proofs.Common.{◌≡◌, ℕ, Bool, true, false, cond, ◌&&◌, List, [], ◌∷◌, ◌++◌, codes, Option, Some, None, refl, sym, ap, ◌∙◌, subst, append-nil}
 use Rattle.std.specs.List.{list_all, flat_map}
 use Rattle.std.specs.Str.{bytes_eq}
 use Rattle.std.proofs.lemmas.List.Folds.{list_all-append, list_all-map}
 use Rattle.std.proofs.lemmas.Slice.Eq.{bytes_eq-Decides}
-use Rattle.pe_base.specs.Walk.{bad, IsCut}
 use Rattle.pe_base.proofs.Walks.{one_cut}
 use Rattle.pe_tool.specs.declared.function.Literal.{Literal}
 use Rattle.pe_tool.specs.declared.function.Product.{Product}
 use Rattle.pe_tool.specs.declared.function.Sum.{Sum}
-use Rattle.pe_tool.specs.Function.{function_start, is_pin, literal_tokens, behind, joined, product_tokens, sum_tokens, product_pins, sum_pins, is_filled, different, IsSum}
-use Rattle.pe_tool.specs.FunctionReading.{after_operator, pin_at, literal_at, is_good_literal, is_good_product, is_good_sum, FollowsProduct}
-use Rattle.pe_tool.proofs.FunctionJoined.{IsApart, HasRead, and_first, and_second, and_both, bytes_eq_refl, after_own, reads_same, refused, refused_first, reads_first, reads_more}
+use Rattle.pe_tool.specs.Function.{function_start, is_pin, literal_tokens, product_tokens, sum_tokens, product_pins, sum_pins, is_filled, IsSum}
+use Rattle.pe_tool.specs.FunctionReading.{pin_at, literal_at, is_good_literal, is_good_product, is_good_sum, FollowsProduct}
+use Rattle.pe_tool.proofs.FunctionJoined.{IsApart, HasRead, and_first, and_second, and_both, reads_same}
 
 -- ---- literals
 

@@ -1,5 +1,5 @@
 -- How a cell is read from the groups of a library.
-use Rattle.std.specs.Prelude.{◌≡◌, ℕ, ◌+◌, ◌==◌, Bool, ◌&&◌, List, length, [], ◌∷◌, codes, Option, Some, Result, Ok, Err}
+use Rattle.std.specs.Prelude.{◌≡◌, ℕ, ◌+◌, ◌==◌, Bool, ◌&&◌, List, length, [], ◌∷◌, codes, Some, Result, Ok, Err}
 use Rattle.std.specs.List.{list_all, AllZip}
 use Rattle.pe_base.specs.Names.{are_distinct}
 use Rattle.pe_liberty_read.specs.declared.library.Statement.{Statement}

@@ -74,3 +74,6 @@ pub fn cell_view(alloc: Global, library: &Library, name: &[u8]) -> Result<CellVi
 pub fn one_view()
     ensures { (l : Library) (name : List ℕ) (v w : CellView) → IsCell l name v → IsCell l name w → v ≡ w }
 {}
+
+#[cfg(test)]
+mod tests;

@@ -55,3 +55,6 @@ pub fn read_sum(alloc: Global, text: &[u8]) -> Result<Sum, FormFault>
 pub fn one_sum()
     ensures { (text : List ℕ) (s t : Sum) → IsSum text s → IsSum text t → s ≡ t }
 {}
+
+#[cfg(test)]
+mod tests;

@@ -1,11 +1,11 @@
-use Rattle.std.proofs.Common.{◌≡◌, ℕ, ◌≤◌, List, Result, Ok, Err, arith, refl, sym, ap, ◌∙◌, subst}
+use Rattle.std.proofs.Common.{◌≡◌, ℕ, ◌≤◌, List, Err, arith, refl, sym, ap, ◌∙◌, subst}
 use Rattle.std.proofs.lemmas.Result.{err_from_is_err_and}
 use Rattle.pe_base.specs.Walk.{IsCut}
 use Rattle.pe_tool.specs.declared.function.Sum.{Sum}
 use Rattle.pe_tool.specs.declared.fault.FormFault.{FormFault}
 use Rattle.pe_tool.specs.declared.fault.FormFault.TheVariants.{Memory, NotBuilt}
-use Rattle.pe_tool.specs.Function.{function_start, sum_tokens, sum_pins, different, IsSum, IsSumAnswer}
-use Rattle.pe_tool.specs.FunctionReading.{is_good_sum, IsTokensAnswer}
+use Rattle.pe_tool.specs.Function.{function_start, sum_tokens, sum_pins, different, IsSumAnswer}
+use Rattle.pe_tool.specs.FunctionReading.{IsTokensAnswer}
 use Rattle.pe_tool.proofs.FunctionSums.{sum_same, good_of, pins_from, filled_from, multiplied_from}
 use Rattle.pe_tool.proofs.function.read_sum.Goals as goal
 

@@ -1,4 +1,3 @@
-use Rattle.std.proofs.Common.{◌≡◌, Err}
 use Rattle.std.proofs.lemmas.Result.{err_from_is_err_and}
 use Rattle.pe_liberty_read.specs.Looking.{view}
 use Rattle.pe_tool.proofs.CellViews.{output_same, gives_like}

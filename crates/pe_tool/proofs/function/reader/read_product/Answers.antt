@@ -1,10 +1,10 @@
-use Rattle.std.proofs.Common.{◌≡◌, ◌++◌, ◌∷◌, [], List, ℕ, ◌<◌, codes, length, refl, sym, subst, arith}
+use Rattle.std.proofs.Common.{◌≡◌, ◌++◌, ◌∷◌, [], List, codes, sym, subst}
 use Rattle.std.proofs.lemmas.Result.{err_from_is_err_and}
 use Rattle.pe_tool.specs.declared.fault.FormFault.TheVariants.{NotBuilt}
 use Rattle.pe_tool.specs.declared.function.Literal.{Literal}
 use Rattle.pe_tool.specs.Function.{literal_tokens}
 use Rattle.pe_tool.specs.FunctionReading.{is_good_literal}
-use Rattle.pe_tool.proofs.FunctionJoined.{HasRead, reads_first, reads_more, refused, refused_first, and_first, and_second, after_is, shrinks}
+use Rattle.pe_tool.proofs.FunctionJoined.{HasRead, reads_first, reads_more, refused, and_first, and_second, after_is, shrinks}
 use Rattle.pe_tool.proofs.FunctionSums.{Anything, literals_apart, literal_takes, literal_missed}
 use Rattle.pe_tool.proofs.function.reader.read_product.Goals as goal
 

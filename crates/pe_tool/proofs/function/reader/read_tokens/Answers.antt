@@ -1,4 +1,4 @@
-use Rattle.std.proofs.Common.{◌≡◌, ◌++◌, ◌∷◌, [], List, ℕ, Bool, false, eqb, length, Option, None, codes, refl, sym, ap, ◌∙◌, subst, append-nil}
+use Rattle.std.proofs.Common.{◌≡◌, ◌++◌, ◌∷◌, [], List, ℕ, Bool, false, eqb, length, None, codes, refl, sym, ◌∙◌, subst, append-nil}
 use Rattle.std.proofs.lemmas.Result.{err_from_is_err_and}
 use Rattle.pe_tool.specs.declared.function.Product.{Product}
 use Rattle.pe_tool.specs.declared.fault.FormFault.TheVariants.{NotBuilt}
