@@ -19,3 +19,8 @@ mod IntentReads
 mod IntentRoots
 pub mod Stages
 pub mod Exact
+pub mod FunctionStarts
+pub mod FunctionJoined
+pub mod FunctionSums
+pub mod CellZips
+pub mod CellViews

@@ -1,14 +1,13 @@
 -- A cell of the library (Liberty: cell, pg_pin, pin). The form that is built has one primary power pin, one primary ground
 -- pin, inputs, and outputs with a function and a power_down_function over these.
 use Rattle.std.specs.Prelude.{◌≡◌, ℕ, ◌+◌, Bool, true, false, cond, not, ◌&&◌, List, [], ◌∷◌, ◌++◌, map, length, codes, Result, Ok, Err, Option, Some, None}
-use Rattle.std.specs.List.{list_all, list_any, flat_map, AllZip, filter}
+use Rattle.std.specs.List.{list_all, list_any, AllZip, filter}
 use Rattle.std.specs.Str.{bytes_eq}
 use Rattle.pe_base.specs.Names.{has_name, are_distinct}
 use Rattle.pe_liberty_read.specs.declared.library.Value.{Value}
 use Rattle.pe_liberty_read.specs.declared.library.Statement.{Statement}
 use Rattle.pe_liberty_read.specs.declared.library.Library.{Library}
 use Rattle.pe_liberty_read.specs.Groups.{bytes_of, Group, groups, attributes, words}
-use Rattle.pe_tool.specs.declared.function.Sum.{Sum}
 use Rattle.pe_tool.specs.declared.cell.CellOutput.{CellOutput}
 use Rattle.pe_tool.specs.declared.cell.CellView.{CellView}
 use Rattle.pe_tool.specs.declared.fault.FormFault.{FormFault}

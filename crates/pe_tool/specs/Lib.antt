@@ -4,7 +4,9 @@ pub mod Upf
 pub mod Intent
 pub mod IntentReading
 pub mod Function
+pub mod FunctionReading
 pub mod Cell
+pub mod CellReading
 pub mod Map
 pub mod MapReading
 pub mod Rows

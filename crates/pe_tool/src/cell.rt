@@ -1,14 +1,21 @@
 //! A cell of the library, as far as its values need it.
 
-ghost use Rattle.std.specs.Prelude.{◌≡◌, IfOk, List};
+ghost use Rattle.std.specs.Prelude.{◌≡◌, ℕ, List, IfOk};
 ghost use Rattle.pe_liberty_read.specs.declared.library.Library.{Library};
 ghost use Rattle.pe_tool.specs.declared.cell.CellView.{CellView};
-ghost use Rattle.pe_tool.specs.Cell.{IsCell, IsCellAnswer};
+ghost use Rattle.pe_tool.specs.Cell.{IsView, IsCell, IsCellAnswer};
 
+mod check;
+mod group;
+mod pin;
+
+use self::check::{is_complete, is_sound};
+use self::group::first_named;
+use self::pin::pins_of;
 use crate::fault::FormFault;
 use crate::function::Sum;
 use pe_base::Name;
-use pe_liberty_read::Library;
+use pe_liberty_read::{Library, Statement, groups_of};
 use sqlite_items::Items;
 use std::alloc::Global;
 
@@ -31,10 +38,42 @@ pub struct CellView {
     pub outputs: Items<CellOutput>,
 }
 
-/// The cell of this name. `NotBuilt` comes exactly where the library has none of the form that is built.
-pub fn cell_view(_alloc: Global, _library: &Library, _name: &[u8]) -> Result<CellView, FormFault>
-    ensures found { IfOk result (λ v. IsCell _library.now _name.now v) }
-    ensures only { (v : CellView) → IsCell _library.now _name.now v → IsCellAnswer v result }
+/// What stands in a cell's group, as a view.
+fn view_of(alloc: Global, body: &[Statement]) -> Result<CellView, FormFault>
+    ensures found { IfOk result (λ v. IsView body.now v) }
+    ensures only { (v : CellView) → IsView body.now v → IsCellAnswer v result }
 {
-    Err(FormFault::Memory)
+    let supplies = groups_of(alloc, b"pg_pin", body)?;
+    let supplies = supplies.as_slice();
+    let pins = groups_of(alloc, b"pin", body)?;
+    let pins = pins.as_slice();
+    if !is_sound(body, supplies, pins) {
+        return Err(FormFault::NotBuilt);
+    }
+    let view = pins_of(alloc, supplies, pins)?;
+    if is_complete(alloc, pins.len(), &view)? {
+        Ok(view)
+    } else {
+        Err(FormFault::NotBuilt)
+    }
 }
+
+/// The cell of this name. `NotBuilt` comes exactly where the library has none of the form that is built.
+pub fn cell_view(alloc: Global, library: &Library, name: &[u8]) -> Result<CellView, FormFault>
+    ensures found { IfOk result (λ v. IsCell library.now name.now v) }
+    ensures only { (v : CellView) → IsCell library.now name.now v → IsCellAnswer v result }
+{
+    let cells = groups_of(alloc, b"cell", library.body.as_slice())?;
+    match first_named(cells.as_slice(), name) {
+        Some(cell) => view_of(alloc, cell.body),
+        None => Err(FormFault::NotBuilt),
+    }
+}
+
+/// No library gives a name two views.
+pub fn one_view()
+    ensures { (l : Library) (name : List ℕ) (v w : CellView) → IsCell l name v → IsCell l name w → v ≡ w }
+{}
+
+#[cfg(test)]
+mod tests;
