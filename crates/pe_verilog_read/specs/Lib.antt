@@ -2,3 +2,5 @@ pub mod Tokens
 pub mod Ports
 pub mod Rtl
 pub mod Net
+pub mod Lexing
+pub mod Reading

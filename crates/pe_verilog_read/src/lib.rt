@@ -2,8 +2,10 @@
 #![tactic(auto)]
 
 mod fault;
+mod lex;
 mod net;
 mod rtl;
+mod words;
 
 pub use fault::ReadFault;
 pub use net::{Connection, Instance, NetItem, NetModule, read_net};

@@ -1,0 +1,20 @@
+-- What the code that cuts a text answers.
+use Rattle.std.specs.Prelude.{◌≡◌, ℕ, List, Result, Ok, Err}
+use Rattle.pe_base.specs.Walk.{Start, gap, token, bad, IsCut}
+use Rattle.pe_verilog_read.specs.declared.lex.Opening.{Opening}
+use Rattle.pe_verilog_read.specs.declared.lex.Opening.TheVariants.{Gap, Token, Bad}
+use Rattle.pe_verilog_read.specs.declared.fault.ReadFault.{ReadFault}
+use Rattle.pe_verilog_read.specs.declared.fault.ReadFault.TheVariants.{Memory, NotBuilt}
+use Rattle.pe_verilog_read.specs.Tokens.{verilog_start}
+
+-- an opening without where it lies in memory
+abbrev pub start_of : Opening → Start
+start_of (Gap rest) = gap rest.now
+start_of (Token word rest) = token word.now rest.now
+start_of Bad = bad
+
+-- the tokens, and no others; or the text is not cut at all
+abbrev pub IsLexed : List ℕ → Result (List (List ℕ)) ReadFault → Type 0
+IsLexed text (Ok tokens) = IsCut verilog_start text tokens × ((others : List (List ℕ)) → IsCut verilog_start text others → others ≡ tokens)
+IsLexed text (Err Memory) = Unit {0}
+IsLexed text (Err NotBuilt) = (others : List (List ℕ)) → IsCut verilog_start text others → ⊥
