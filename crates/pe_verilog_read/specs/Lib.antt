@@ -4,3 +4,5 @@ pub mod Rtl
 pub mod Net
 pub mod Lexing
 pub mod Reading
+pub mod RtlReading
+pub mod NetReading

@@ -85,3 +85,33 @@ fn next_ports(alloc: Global, tokens: &[Name]) -> Result<(Items<Port>, &[Name]), 
     }
     Err(ReadFault::NotBuilt)
 }
+
+/// The ports up to the closing mark.
+#[tactic(auto, unfolding(crate::specs::Reading::ports_at))]
+fn ports(alloc: Global, tokens: &[Name]) -> Result<(Items<Port>, &[Name]), ReadFault>
+    ensures { Gives (λ x. (x.0, x.1.now)) result (ports_at tokens.now) }
+{
+    let mut ports = Items::new(alloc);
+    if is_next(tokens, b")") {
+        return Ok((ports, tokens));
+    }
+    let (first, rest) = port(alloc, tokens)?;
+    let (others, rest) = next_ports(alloc, rest)?;
+    ports.push(first)?;
+    ports.append(others)?;
+    Ok((ports, rest))
+}
+
+/// `module NAME ( PORTS ) ;`
+#[tactic(auto, unfolding(crate::specs::Reading::head_at))]
+pub fn head(alloc: Global, tokens: &[Name]) -> Result<(Name, Items<Port>, &[Name]), ReadFault>
+    ensures { Gives (λ x. ((x.0, x.1), x.2.now)) result (head_at tokens.now) }
+{
+    let rest = behind(tokens, b"module")?;
+    let (name, rest) = name(alloc, rest)?;
+    let rest = behind(rest, b"(")?;
+    let (ports, rest) = ports(alloc, rest)?;
+    let rest = behind(rest, b")")?;
+    let rest = behind(rest, b";")?;
+    Ok((name, ports, rest))
+}

@@ -2,9 +2,12 @@
 #![tactic(auto)]
 
 mod fault;
+mod head;
 mod lex;
 mod net;
+mod net_parse;
 mod rtl;
+mod rtl_parse;
 mod words;
 
 pub use fault::ReadFault;
