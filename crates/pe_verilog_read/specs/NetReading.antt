@@ -5,7 +5,7 @@ use Rattle.pe_verilog_read.specs.declared.net.Instance.{Instance}
 use Rattle.pe_verilog_read.specs.declared.net.NetItem.{NetItem}
 use Rattle.pe_verilog_read.specs.declared.net.NetItem.TheVariants as item
 use Rattle.pe_verilog_read.specs.declared.net.NetModule.{NetModule}
-use Rattle.pe_verilog_read.specs.Reading.{Reading, ◌>>=◌, behind, is_next, name_at, many_at, head_at}
+use Rattle.pe_verilog_read.specs.Reading.{Reading, ◌>>=◌, behind, is_next, name_at, many_at, listed_at, head_at}
 use Rattle.pe_verilog_read.specs.RtlReading.{wire_at, is_inside, ends}
 
 -- . PIN ( NET )
@@ -29,7 +29,7 @@ next_connections_at ts = many_at (is_next (codes ",")) next_connection_at (lengt
 
 -- the connections up to the closing mark
 unfoldable pub connections_at : List (List ℕ) → Reading (List Connection)
-connections_at ts = cond (is_next (codes ")") ts) (Some ([], ts)) (connection_at ts >>= λ c. next_connections_at c.1 >>= λ cs. Some (c.0 ∷ cs.0, cs.1))
+connections_at ts = listed_at connection_at next_connections_at ts
 
 -- CELL NAME ( CONNECTIONS ) ;
 unfoldable pub instance_at : List (List ℕ) → Reading Instance

@@ -46,6 +46,10 @@ many_at goes one (suc n) ts = cond (goes ts) (one ts >>= λ x. many_at goes one 
 abbrev pub with_front : {X : Type 0} → List X → Reading (List X) → Reading (List X)
 with_front front read = read >>= λ x. Some (front ++ x.0, x.1)
 
+-- those up to a closing mark: none, or a first one and the others
+abbrev pub listed_at : {X : Type 0} → (List (List ℕ) → Reading X) → (List (List ℕ) → Reading (List X)) → List (List ℕ) → Reading (List X)
+listed_at one others ts = cond (is_next (codes ")") ts) (Some ([], ts)) (one ts >>= λ x. others x.1 >>= λ xs. Some (x.0 ∷ xs.0, xs.1))
+
 abbrev pub direction_at : List (List ℕ) → Reading Direction
 direction_at [] = None
 direction_at (t ∷ ts) = cond (bytes_eq t (codes "input")) (Some (Input, ts)) (cond (bytes_eq t (codes "output")) (Some (Output, ts)) None)
@@ -67,7 +71,7 @@ next_ports_at ts = many_at (is_next (codes ",")) next_port_at (length ts) ts
 
 -- the ports up to the closing mark
 unfoldable pub ports_at : List (List ℕ) → Reading (List Port)
-ports_at ts = cond (is_next (codes ")") ts) (Some ([], ts)) (port_at ts >>= λ p. next_ports_at p.1 >>= λ ps. Some (p.0 ∷ ps.0, ps.1))
+ports_at ts = listed_at port_at next_ports_at ts
 
 -- module NAME ( PORTS ) ;
 unfoldable pub head_at : List (List ℕ) → Reading (List ℕ × List Port)
