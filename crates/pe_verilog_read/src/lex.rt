@@ -2,7 +2,7 @@
 
 ghost use Rattle.std.specs.Prelude.{◌≡◌, ◌≤◌, take, drop, length};
 ghost use Rattle.pe_verilog_read.specs.Tokens.{verilog_start, name_front, name_back, after_line, after_block, after_stroke};
-ghost use Rattle.pe_verilog_read.specs.Lexing.{start_of, IsLexed};
+ghost use Rattle.pe_verilog_read.specs.Lexing.{start_of, IsLexed, IsLexedShort};
 
 use crate::fault::ReadFault;
 use crate::words::{begins_name, goes_on_name, is_mark, is_white};
@@ -93,8 +93,21 @@ fn open_at(text: &[u8]) -> Opening<'_>
     }
 }
 
+/// How many bytes a text may have.
+const LIMIT: usize = 16_777_216;
+
+/// The tokens of a text that is no longer than a file may be.
+pub fn lex_short(alloc: Global, text: &[u8]) -> Result<Items<Name>, ReadFault>
+    ensures { IsLexedShort text.now result }
+{
+    if text.len() > LIMIT {
+        return Err(ReadFault::NotBuilt);
+    }
+    lex(alloc, text)
+}
+
 /// The tokens of a text.
-pub fn lex(alloc: Global, text: &[u8]) -> Result<Items<Name>, ReadFault>
+fn lex(alloc: Global, text: &[u8]) -> Result<Items<Name>, ReadFault>
     ensures { IsLexed text.now result }
 {
     let mut tokens = Items::new(alloc);

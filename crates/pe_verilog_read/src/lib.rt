@@ -5,11 +5,13 @@ mod fault;
 mod head;
 mod lex;
 mod net;
+mod net_form;
 mod net_parse;
 mod rtl;
+mod rtl_form;
 mod rtl_parse;
 mod words;
 
 pub use fault::ReadFault;
-pub use net::{Connection, Instance, NetItem, NetModule, read_net};
-pub use rtl::{Assign, Direction, Expr, Port, RtlItem, RtlModule, read_rtl};
+pub use net::{Connection, Instance, NetItem, NetModule, one_net, read_net};
+pub use rtl::{Assign, Direction, Expr, Port, RtlItem, RtlModule, one_rtl, read_rtl};

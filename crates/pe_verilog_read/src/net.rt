@@ -1,10 +1,13 @@
 //! A netlist module of cells.
 
-ghost use Rattle.std.specs.Prelude.{◌≡◌, IfOk};
+ghost use Rattle.std.specs.Prelude.{◌≡◌, ℕ, List, IfOk};
 ghost use Rattle.pe_verilog_read.specs.declared.net.NetModule.{NetModule};
 ghost use Rattle.pe_verilog_read.specs.Net.{IsNet, IsNetAnswer};
 
 use crate::fault::ReadFault;
+use crate::lex::lex_short;
+use crate::net_form::is_net_form;
+use crate::net_parse::net_module;
 use crate::rtl::Port;
 use pe_base::Name;
 use sqlite_items::Items;
@@ -42,11 +45,21 @@ pub struct NetModule {
 }
 
 /// The netlist module that a text spells. `NotBuilt` comes exactly where the text spells none of the form that is built.
-pub fn read_net(_alloc: Global, _text: &[u8]) -> Result<NetModule, ReadFault>
+pub fn read_net(alloc: Global, text: &[u8]) -> Result<NetModule, ReadFault>
     // What is read is spelled.
-    ensures found { IfOk result (λ m. IsNet _text.now m) }
+    ensures found { IfOk result (λ m. IsNet text.now m) }
     // What is spelled is read, unless memory runs out.
-    ensures only { (m : NetModule) → IsNet _text.now m → IsNetAnswer m result }
+    ensures only { (m : NetModule) → IsNet text.now m → IsNetAnswer m result }
 {
-    Err(ReadFault::Memory)
+    let tokens = lex_short(alloc, text)?;
+    let design = net_module(alloc, tokens.as_slice())?;
+    if !is_net_form(alloc, &design)? {
+        return Err(ReadFault::NotBuilt);
+    }
+    Ok(design)
 }
+
+/// No text spells two netlist modules.
+pub fn one_net()
+    ensures { (text : List ℕ) (m n : NetModule) → IsNet text m → IsNet text n → m ≡ n }
+{}

@@ -1,10 +1,13 @@
 //! An RTL module of one-bit assignments.
 
-ghost use Rattle.std.specs.Prelude.{◌≡◌, IfOk};
+ghost use Rattle.std.specs.Prelude.{◌≡◌, ℕ, List, IfOk};
 ghost use Rattle.pe_verilog_read.specs.declared.rtl.RtlModule.{RtlModule};
 ghost use Rattle.pe_verilog_read.specs.Rtl.{IsRtl, IsRtlAnswer};
 
 use crate::fault::ReadFault;
+use crate::lex::lex_short;
+use crate::rtl_form::is_rtl_form;
+use crate::rtl_parse::rtl_module;
 use pe_base::Name;
 use sqlite_items::Items;
 use std::alloc::Global;
@@ -56,11 +59,21 @@ pub struct RtlModule {
 }
 
 /// The RTL module that a text spells. `NotBuilt` comes exactly where the text spells none of the form that is built.
-pub fn read_rtl(_alloc: Global, _text: &[u8]) -> Result<RtlModule, ReadFault>
+pub fn read_rtl(alloc: Global, text: &[u8]) -> Result<RtlModule, ReadFault>
     // What is read is spelled.
-    ensures found { IfOk result (λ m. IsRtl _text.now m) }
+    ensures found { IfOk result (λ m. IsRtl text.now m) }
     // What is spelled is read, unless memory runs out.
-    ensures only { (m : RtlModule) → IsRtl _text.now m → IsRtlAnswer m result }
+    ensures only { (m : RtlModule) → IsRtl text.now m → IsRtlAnswer m result }
 {
-    Err(ReadFault::Memory)
+    let tokens = lex_short(alloc, text)?;
+    let design = rtl_module(alloc, tokens.as_slice())?;
+    if !is_rtl_form(alloc, &design)? {
+        return Err(ReadFault::NotBuilt);
+    }
+    Ok(design)
 }
+
+/// No text spells two RTL modules.
+pub fn one_rtl()
+    ensures { (text : List ℕ) (m n : RtlModule) → IsRtl text m → IsRtl text n → m ≡ n }
+{}
