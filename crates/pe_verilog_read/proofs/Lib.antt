@@ -6,3 +6,5 @@ pub mod NetTakes
 pub mod Again
 pub mod RtlAgain
 pub mod NetAgain
+pub mod RtlTexts
+pub mod NetTexts
