@@ -10,6 +10,8 @@ mod net_parse;
 mod rtl;
 mod rtl_form;
 mod rtl_parse;
+#[cfg(test)]
+mod tests;
 mod words;
 
 pub use fault::ReadFault;
