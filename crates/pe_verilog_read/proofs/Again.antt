@@ -1,6 +1,6 @@
 -- What is spelled is read again.
-use Rattle.std.proofs.Common.{◌≡◌, ◌⊎◌, inl, inr, ℕ, zero, suc, ◌<◌, Bool, true, false, cond, List, [], ◌∷◌, ◌++◌, Option, Some, None, refl, sym, ap, ◌∙◌, subst, append_assoc, arith, length, length-append}
-use Rattle.std.specs.Prelude.{codes, not}
+use Rattle.std.proofs.Common.{◌≡◌, ℕ, zero, suc, ◌<◌, Bool, true, false, cond, List, [], ◌∷◌, ◌++◌, Some, None, refl, sym, ap, ◌∙◌, append_assoc, arith, length, length-append}
+use Rattle.std.specs.Prelude.{codes}
 use Rattle.std.specs.Str.{bytes_eq}
 use Rattle.std.specs.List.{list_all, flat_map}
 use Rattle.std.proofs.lemmas.Bool.{and_parts}
@@ -11,7 +11,7 @@ use Rattle.pe_verilog_read.specs.declared.rtl.Direction.TheVariants.{Input, Outp
 use Rattle.pe_verilog_read.specs.declared.rtl.Port.{Port}
 use Rattle.pe_verilog_read.specs.Tokens.{is_name}
 use Rattle.pe_verilog_read.specs.Ports.{direction_word, port_tokens, with_commas, behind_commas, head_tokens, port_names}
-use Rattle.pe_verilog_read.specs.Reading.{Reading, ◌>>=◌, behind, is_next, name_at, many_at, listed_at, direction_at, port_at, next_port_at, next_ports_at, ports_at, head_at}
+use Rattle.pe_verilog_read.specs.Reading.{Reading, ◌>>=◌, behind, is_next, name_at, many_at, listed_at, port_at, next_port_at, next_ports_at, ports_at, head_at}
 use Rattle.pe_verilog_read.proofs.Takes.{Named, same_bytes, commas, port_name}
 
 pub Named-parts : (a b : List (List ℕ)) → Named (a ++ b) → Named a × Named b

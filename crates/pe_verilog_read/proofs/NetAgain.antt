@@ -1,17 +1,14 @@
 -- What a netlist module's tokens spell is read again.
-use Rattle.std.proofs.Common.{◌≡◌, ℕ, ◌<◌, Bool, true, false, cond, List, [], ◌∷◌, ◌++◌, Option, Some, None, refl, sym, ap, ◌∙◌, append_assoc, arith, length}
+use Rattle.std.proofs.Common.{◌≡◌, ℕ, ◌<◌, true, cond, List, [], ◌∷◌, ◌++◌, Some, None, refl, ap, ◌∙◌, append_assoc, arith, length}
 use Rattle.std.specs.Prelude.{codes, not}
-use Rattle.std.specs.Str.{bytes_eq}
 use Rattle.std.specs.List.{flat_map}
 use Rattle.pe_verilog_read.specs.declared.net.Connection.{Connection}
-use Rattle.pe_verilog_read.specs.declared.net.Instance.{Instance}
 use Rattle.pe_verilog_read.specs.declared.net.NetItem.{NetItem}
 use Rattle.pe_verilog_read.specs.declared.net.NetItem.TheVariants as item
 use Rattle.pe_verilog_read.specs.declared.net.NetModule.{NetModule}
-use Rattle.pe_verilog_read.specs.Tokens.{is_name}
 use Rattle.pe_verilog_read.specs.Ports.{head_tokens, with_commas, behind_commas}
 use Rattle.pe_verilog_read.specs.Net.{connection_tokens, net_item_tokens, net_tokens, connection_names, net_item_names, net_names}
-use Rattle.pe_verilog_read.specs.Reading.{Reading, ◌>>=◌, behind, is_next, name_at, many_at, head_at}
+use Rattle.pe_verilog_read.specs.Reading.{◌>>=◌, behind, is_next, name_at, many_at}
 use Rattle.pe_verilog_read.specs.RtlReading.{wire_at, is_inside, ends}
 use Rattle.pe_verilog_read.specs.NetReading.{connection_at, next_connection_at, next_connections_at, connections_at, instance_at, net_item_at, net_items_at, net_at}
 use Rattle.pe_verilog_read.proofs.Takes.{Named, commas}

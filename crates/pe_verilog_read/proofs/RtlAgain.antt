@@ -1,17 +1,15 @@
 -- What an RTL module's tokens spell is read again.
-use Rattle.std.proofs.Common.{◌≡◌, ℕ, ◌<◌, Bool, true, false, cond, List, [], ◌∷◌, ◌++◌, Option, Some, None, refl, sym, ap, ◌∙◌, append_assoc, arith, length}
-use Rattle.std.specs.Prelude.{codes, not}
+use Rattle.std.proofs.Common.{◌≡◌, ℕ, ◌<◌, true, cond, List, [], ◌∷◌, ◌++◌, Some, None, refl, ap, ◌∙◌, append_assoc, arith, length}
+use Rattle.std.specs.Prelude.{codes}
 use Rattle.std.specs.List.{flat_map}
 use Rattle.pe_verilog_read.specs.declared.rtl.Expr.{Expr}
 use Rattle.pe_verilog_read.specs.declared.rtl.Expr.TheVariants.{Net, And}
-use Rattle.pe_verilog_read.specs.declared.rtl.Assign.{Assign}
 use Rattle.pe_verilog_read.specs.declared.rtl.RtlItem.{RtlItem}
 use Rattle.pe_verilog_read.specs.declared.rtl.RtlItem.TheVariants as item
 use Rattle.pe_verilog_read.specs.declared.rtl.RtlModule.{RtlModule}
-use Rattle.pe_verilog_read.specs.Tokens.{is_name}
 use Rattle.pe_verilog_read.specs.Ports.{head_tokens}
 use Rattle.pe_verilog_read.specs.Rtl.{expr_tokens, rtl_item_tokens, rtl_tokens, operands, rtl_item_names, rtl_names}
-use Rattle.pe_verilog_read.specs.Reading.{Reading, ◌>>=◌, behind, is_next, name_at, many_at, head_at}
+use Rattle.pe_verilog_read.specs.Reading.{◌>>=◌, behind, is_next, name_at}
 use Rattle.pe_verilog_read.specs.RtlReading.{expr_at, wire_at, assign_at, rtl_item_at, rtl_items_at, rtl_at, is_inside, ends}
 use Rattle.pe_verilog_read.proofs.Takes.{Named}
 use Rattle.pe_verilog_read.proofs.RtlTakes.{wire_tokens, assign_tokens, assign_names}

@@ -1,12 +1,12 @@
 -- What the answer about a text says of an RTL module that the text spells.
-use Rattle.std.proofs.Common.{◌≡◌, ◌≤◌, ℕ, Bool, true, false, List, Option, Some, None, Result, Ok, Err, refl, sym, ap, ◌∙◌, subst, length}
+use Rattle.std.proofs.Common.{◌≡◌, ◌≤◌, ℕ, true, List, Some, None, Err, refl, sym, ap, ◌∙◌, subst, length}
 use Rattle.pe_base.specs.Walk.{IsCut}
 use Rattle.pe_base.proofs.Walks.{one_cut}
 use Rattle.pe_verilog_read.specs.declared.rtl.RtlModule.{RtlModule}
 use Rattle.pe_verilog_read.specs.declared.fault.ReadFault.{ReadFault}
 use Rattle.pe_verilog_read.specs.declared.fault.ReadFault.TheVariants.{Memory, NotBuilt}
 use Rattle.pe_verilog_read.specs.Tokens.{verilog_start}
-use Rattle.pe_verilog_read.specs.Rtl.{rtl_tokens, rtl_names, is_rtl_form, IsRtl, IsRtlAnswer}
+use Rattle.pe_verilog_read.specs.Rtl.{rtl_tokens, is_rtl_form, IsRtl, IsRtlAnswer}
 use Rattle.pe_verilog_read.specs.Lexing.{IsLexedShort}
 use Rattle.pe_verilog_read.specs.Reading.{Gives}
 use Rattle.pe_verilog_read.specs.RtlReading.{rtl_at}

@@ -1,5 +1,5 @@
 -- What stands behind a gap or a token is shorter than what stood there.
-use Rattle.std.proofs.Common.{◌≡◌, ◌≢◌, ℕ, ◌+◌, ◌<◌, ◌≤◌, Bool, true, false, cond, ◌&&◌, ◌||◌, List, [], ◌∷◌, length, refl, arith, ◌==◌, subst}
+use Rattle.std.proofs.Common.{◌≡◌, ℕ, ◌<◌, ◌≤◌, Bool, true, false, cond, ◌&&◌, List, [], ◌∷◌, length, arith, ◌==◌, subst}
 use Rattle.pe_base.specs.Walk.{Start, gap, token, bad}
 use Rattle.pe_verilog_read.specs.Tokens.{is_white, is_mark, begins_name, goes_on_name, name_front, name_back, after_line, after_block, after_stroke, verilog_start}
 

@@ -1,6 +1,6 @@
 -- What is read is spelled by the tokens that are passed.
-use Rattle.std.proofs.Common.{◌≡◌, ◌≢◌, ◌⊎◌, inl, inr, ℕ, zero, suc, Bool, true, false, cond, ◌&&◌, Decides, List, [], ◌∷◌, ◌++◌, Option, Some, None, refl, sym, ap, ◌∙◌, subst, append_assoc, append-nil, arith, length}
-use Rattle.std.specs.Prelude.{codes, not}
+use Rattle.std.proofs.Common.{◌≡◌, ◌⊎◌, inl, inr, ℕ, zero, suc, Bool, true, false, cond, List, [], ◌∷◌, ◌++◌, Option, Some, None, refl, sym, ap, ◌∙◌, subst, append_assoc, length}
+use Rattle.std.specs.Prelude.{codes}
 use Rattle.std.specs.Str.{bytes_eq}
 use Rattle.std.specs.List.{list_all, flat_map}
 use Rattle.std.proofs.lemmas.Bool.{and_from}
@@ -10,7 +10,7 @@ use Rattle.pe_verilog_read.specs.declared.rtl.Direction.{Direction}
 use Rattle.pe_verilog_read.specs.declared.rtl.Direction.TheVariants.{Input, Output}
 use Rattle.pe_verilog_read.specs.declared.rtl.Port.{Port}
 use Rattle.pe_verilog_read.specs.Tokens.{is_name}
-use Rattle.pe_verilog_read.specs.Ports.{direction_word, port_tokens, with_commas, behind_commas, head_tokens, port_names}
+use Rattle.pe_verilog_read.specs.Ports.{direction_word, port_tokens, with_commas, behind_commas, head_tokens}
 use Rattle.pe_verilog_read.specs.Reading.{Reading, ◌>>=◌, behind, is_next, name_at, many_at, listed_at, direction_at, port_at, next_port_at, next_ports_at, ports_at, head_at}
 
 -- each is a name
@@ -20,10 +20,10 @@ Named names = list_all is_name names ≡ true
 pub Named-append : (a b : List (List ℕ)) → Named a → Named b → Named (a ++ b)
 Named-append a b p q = list_all-append is_name a b ∙ and_from (list_all is_name a) (list_all is_name b) p q
 
--- the value of a step that did not fail
-pub bind_some : {A B : Type 0} (o : Option A) (f : A → Option B) (y : B) → (o >>= f) ≡ Some y → (x : A) × (o ≡ Some x) × (f x ≡ Some y)
-bind_some (Some x) f y e = (x, refl, e)
-bind_some None f y e = absurd cc
+-- a step that did not fail, and what follows it
+pub read_on : {A B Q : Type 0} (o : Option A) (f : A → Option B) (y : B) → (o >>= f) ≡ Some y → ((x : A) → o ≡ Some x → f x ≡ Some y → Q) → Q
+read_on (Some x) f y e go = go x refl e
+read_on None f y e go = absurd cc
 
 abbrev some_of : {A : Type 0} → A → Option A
 some_of x = Some x
@@ -73,15 +73,13 @@ many_takes {X} goes one tokens names takes (suc n) ts x e =
           subst P (some_is made x h.1) (refl, refl)
       | inl h ↦
           let P : List X × List (List ℕ) → Type 0 = λ y. (ts ≡ flat_map tokens y.0 ++ y.1) × Named (flat_map names y.0) in
-          let s0 = bind_some (one ts) (λ y. many_at goes one n y.1 >>= λ ys. Some (y.0 ∷ ys.0, ys.1)) x h.1 in
-          let y = s0.0 in
-          let s1 = bind_some (many_at goes one n y.1) (λ ys. Some (y.0 ∷ ys.0, ys.1)) x s0.2 in
-          let ys = s1.0 in
+          read_on (one ts) (λ y. many_at goes one n y.1 >>= λ ys. Some (y.0 ∷ ys.0, ys.1)) x h.1 (λ y of_y on_y.
+          read_on (many_at goes one n y.1) (λ ys. Some (y.0 ∷ ys.0, ys.1)) x on_y (λ ys of_ys on_ys.
           let made : List X × List (List ℕ) = (y.0 ∷ ys.0, ys.1) in
-          let first = takes ts y s0.1 in
-          let others = many_takes goes one tokens names takes n y.1 ys s1.1 in
-          subst P (some_is made x s1.2)
-          (first.0 ∙ ap (λ r. tokens y.0 ++ r) others.0 ∙ sym (append_assoc (tokens y.0) (flat_map tokens ys.0) ys.1), Named-append (names y.0) (flat_map names ys.0) first.1 others.1)
+          let first = takes ts y of_y in
+          let others = many_takes goes one tokens names takes n y.1 ys of_ys in
+          subst P (some_is made x on_ys)
+          (first.0 ∙ ap (λ r. tokens y.0 ++ r) others.0 ∙ sym (append_assoc (tokens y.0) (flat_map tokens ys.0) ys.1), Named-append (names y.0) (flat_map names ys.0) first.1 others.1)))
     ]
 
 -- the same list, with its commas in front
@@ -98,15 +96,13 @@ listed_takes {X} one others tokens names takes others_take ts x e =
           let made : List X × List (List ℕ) = ([], ts) in
           subst P (some_is made x h.1) (refl, refl)
       | inr h ↦
-          let s0 = bind_some (one ts) (λ y. others y.1 >>= λ ys. Some (y.0 ∷ ys.0, ys.1)) x h.1 in
-          let y = s0.0 in
-          let s1 = bind_some (others y.1) (λ ys. Some (y.0 ∷ ys.0, ys.1)) x s0.2 in
-          let ys = s1.0 in
+          read_on (one ts) (λ y. others y.1 >>= λ ys. Some (y.0 ∷ ys.0, ys.1)) x h.1 (λ y of_y on_y.
+          read_on (others y.1) (λ ys. Some (y.0 ∷ ys.0, ys.1)) x on_y (λ ys of_ys on_ys.
           let made : List X × List (List ℕ) = (y.0 ∷ ys.0, ys.1) in
-          let first = takes ts y s0.1 in
-          let more = others_take y.1 ys s1.1 in
-          subst P (some_is made x s1.2)
-          (first.0 ∙ ap (λ r. tokens y.0 ++ r) more.0 ∙ sym (append_assoc (tokens y.0) (behind_commas tokens ys.0) ys.1), Named-append (names y.0) (flat_map names ys.0) first.1 more.1)
+          let first = takes ts y of_y in
+          let more = others_take y.1 ys of_ys in
+          subst P (some_is made x on_ys)
+          (first.0 ∙ ap (λ r. tokens y.0 ++ r) more.0 ∙ sym (append_assoc (tokens y.0) (behind_commas tokens ys.0) ys.1), Named-append (names y.0) (flat_map names ys.0) first.1 more.1)))
     ]
 
 -- ---- the head
@@ -128,22 +124,20 @@ port_name p = p.name ∷ []
 port_takes : OneTakes port_at port_tokens port_name
 unfolding port_at
 port_takes ts x e =
-    let s0 = bind_some (direction_at ts) (λ d. name_at d.1 >>= λ n. Some (record { direction = d.0; name = n.0 }, n.1)) x e in
-    let d = s0.0 in
-    let s1 = bind_some (name_at d.1) (λ n. Some (record { direction = d.0; name = n.0 }, n.1)) x s0.2 in
-    let n = s1.0 in
+    read_on (direction_at ts) (λ d. name_at d.1 >>= λ n. Some (record { direction = d.0; name = n.0 }, n.1)) x e (λ d of_d on_d.
+    read_on (name_at d.1) (λ n. Some (record { direction = d.0; name = n.0 }, n.1)) x on_d (λ n of_n on_n.
     let made : Port × List (List ℕ) = (record { direction = d.0; name = n.0 }, n.1) in
-    let p = direction_takes ts d s0.1 in
-    let q = name_takes d.1 n s1.1 in
+    let p = direction_takes ts d of_d in
+    let q = name_takes d.1 n of_n in
     let P : Port × List (List ℕ) → Type 0 = λ y. (ts ≡ port_tokens y.0 ++ y.1) × Named (port_name y.0) in
-    subst P (some_is made x s1.2) (p ∙ ap (λ r. direction_word d.0 ∷ r) q.0, and_from (is_name n.0) true q.1 refl)
+    subst P (some_is made x on_n) (p ∙ ap (λ r. direction_word d.0 ∷ r) q.0, and_from (is_name n.0) true q.1 refl)))
 
 next_port_takes : OneTakes next_port_at (λ p. codes "," ∷ port_tokens p) port_name
 unfolding next_port_at
 next_port_takes ts x e =
-    let s = bind_some (behind (codes ",") ts) (λ r. port_at r) x e in
-    let p = port_takes s.0 x s.2 in
-    (behind_takes (codes ",") ts s.0 s.1 ∙ ap (λ r. codes "," ∷ r) p.0, p.1)
+    read_on (behind (codes ",") ts) (λ r. port_at r) x e (λ w of_w on_w.
+    let p = port_takes w x on_w in
+    (behind_takes (codes ",") ts w of_w ∙ ap (λ r. codes "," ∷ r) p.0, p.1))
 
 next_ports_take : OneTakes next_ports_at (behind_commas port_tokens) (flat_map port_name)
 unfolding next_ports_at
@@ -158,27 +152,21 @@ ports_take ts x e = listed_takes port_at next_ports_at port_tokens port_name por
 pub head_takes : (ts : List (List ℕ)) (x : (List ℕ × List Port) × List (List ℕ)) → head_at ts ≡ Some x → (ts ≡ head_tokens x.0.0 x.0.1 ++ x.1) × (is_name x.0.0 ≡ true) × Named (flat_map port_name x.0.1)
 unfolding head_at
 head_takes ts x e =
-    let s0 = bind_some (behind (codes "module") ts) (λ a. name_at a >>= λ n. behind (codes "(") n.1 >>= λ b. ports_at b >>= λ ps. behind (codes ")") ps.1 >>= λ c. behind (codes ";") c >>= λ d. Some ((n.0, ps.0), d)) x e in
-    let a = s0.0 in
-    let s1 = bind_some (name_at a) (λ n. behind (codes "(") n.1 >>= λ b. ports_at b >>= λ ps. behind (codes ")") ps.1 >>= λ c. behind (codes ";") c >>= λ d. Some ((n.0, ps.0), d)) x s0.2 in
-    let n = s1.0 in
-    let s2 = bind_some (behind (codes "(") n.1) (λ b. ports_at b >>= λ ps. behind (codes ")") ps.1 >>= λ c. behind (codes ";") c >>= λ d. Some ((n.0, ps.0), d)) x s1.2 in
-    let b = s2.0 in
-    let s3 = bind_some (ports_at b) (λ ps. behind (codes ")") ps.1 >>= λ c. behind (codes ";") c >>= λ d. Some ((n.0, ps.0), d)) x s2.2 in
-    let ps = s3.0 in
-    let s4 = bind_some (behind (codes ")") ps.1) (λ c. behind (codes ";") c >>= λ d. Some ((n.0, ps.0), d)) x s3.2 in
-    let c = s4.0 in
-    let s5 = bind_some (behind (codes ";") c) (λ d. Some ((n.0, ps.0), d)) x s4.2 in
-    let d = s5.0 in
+    read_on (behind (codes "module") ts) (λ a. name_at a >>= λ n. behind (codes "(") n.1 >>= λ b. ports_at b >>= λ ps. behind (codes ")") ps.1 >>= λ c. behind (codes ";") c >>= λ d. Some ((n.0, ps.0), d)) x e (λ a of_a on_a.
+    read_on (name_at a) (λ n. behind (codes "(") n.1 >>= λ b. ports_at b >>= λ ps. behind (codes ")") ps.1 >>= λ c. behind (codes ";") c >>= λ d. Some ((n.0, ps.0), d)) x on_a (λ n of_n on_n.
+    read_on (behind (codes "(") n.1) (λ b. ports_at b >>= λ ps. behind (codes ")") ps.1 >>= λ c. behind (codes ";") c >>= λ d. Some ((n.0, ps.0), d)) x on_n (λ b of_b on_b.
+    read_on (ports_at b) (λ ps. behind (codes ")") ps.1 >>= λ c. behind (codes ";") c >>= λ d. Some ((n.0, ps.0), d)) x on_b (λ ps of_ps on_ps.
+    read_on (behind (codes ")") ps.1) (λ c. behind (codes ";") c >>= λ d. Some ((n.0, ps.0), d)) x on_ps (λ c of_c on_c.
+    read_on (behind (codes ";") c) (λ d. Some ((n.0, ps.0), d)) x on_c (λ d of_d on_d.
     let made : (List ℕ × List Port) × List (List ℕ) = ((n.0, ps.0), d) in
-    let p0 = behind_takes (codes "module") ts a s0.1 in
-    let p1 = name_takes a n s1.1 in
-    let p2 = behind_takes (codes "(") n.1 b s2.1 in
-    let p3 = ports_take b ps s3.1 in
-    let p4 = behind_takes (codes ")") ps.1 c s4.1 in
-    let p5 = behind_takes (codes ";") c d s5.1 in
+    let p0 = behind_takes (codes "module") ts a of_a in
+    let p1 = name_takes a n of_n in
+    let p2 = behind_takes (codes "(") n.1 b of_b in
+    let p3 = ports_take b ps of_ps in
+    let p4 = behind_takes (codes ")") ps.1 c of_c in
+    let p5 = behind_takes (codes ";") c d of_d in
     let back = p4 ∙ ap (λ r. codes ")" ∷ r) p5 in
     let inner = p3.0 ∙ ap (λ r. with_commas port_tokens ps.0 ++ r) back ∙ sym (append_assoc (with_commas port_tokens ps.0) (codes ")" ∷ codes ";" ∷ []) d) in
     let whole : ts ≡ head_tokens n.0 ps.0 ++ d = p0 ∙ ap (λ r. codes "module" ∷ r) (p1.0 ∙ ap (λ r. n.0 ∷ r) (p2 ∙ ap (λ r. codes "(" ∷ r) inner)) in
     let P : (List ℕ × List Port) × List (List ℕ) → Type 0 = λ y. (ts ≡ head_tokens y.0.0 y.0.1 ++ y.1) × (is_name y.0.0 ≡ true) × Named (flat_map port_name y.0.1) in
-    subst P (some_is made x s5.2) (whole, p1.1, p3.1)
+    subst P (some_is made x on_d) (whole, p1.1, p3.1)))))))

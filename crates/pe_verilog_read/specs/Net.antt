@@ -2,7 +2,7 @@
 use Rattle.std.specs.Prelude.{◌≡◌, ℕ, ◌≤◌, ◌==◌, Bool, true, ◌&&◌, List, [], ◌∷◌, ◌++◌, map, length, codes, Result, Ok, Err}
 use Rattle.std.specs.List.{list_all, flat_map}
 use Rattle.pe_base.specs.Walk.{IsCut}
-use Rattle.pe_base.specs.Names.{has_name, are_distinct}
+use Rattle.pe_base.specs.Names.{are_distinct}
 use Rattle.pe_verilog_read.specs.declared.net.Connection.{Connection}
 use Rattle.pe_verilog_read.specs.declared.net.Instance.{Instance}
 use Rattle.pe_verilog_read.specs.declared.net.NetItem.{NetItem}

@@ -1,5 +1,5 @@
 -- Reading the tokens of a netlist module.
-use Rattle.std.specs.Prelude.{ℕ, cond, List, [], ◌∷◌, length, codes, Option, Some, None}
+use Rattle.std.specs.Prelude.{ℕ, cond, List, length, codes, Option, Some, None}
 use Rattle.pe_verilog_read.specs.declared.net.Connection.{Connection}
 use Rattle.pe_verilog_read.specs.declared.net.Instance.{Instance}
 use Rattle.pe_verilog_read.specs.declared.net.NetItem.{NetItem}

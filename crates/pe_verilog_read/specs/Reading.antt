@@ -1,5 +1,5 @@
 -- Reading the tokens of a module from left to right: what is read, with the tokens behind it.
-use Rattle.std.specs.Prelude.{◌≡◌, ℕ, zero, suc, Bool, true, false, cond, not, List, [], ◌∷◌, ◌++◌, length, codes, Option, Some, None, Result, Ok, Err}
+use Rattle.std.specs.Prelude.{◌≡◌, ℕ, zero, suc, Bool, false, cond, List, [], ◌∷◌, ◌++◌, length, codes, Option, Some, None, Result, Ok, Err}
 use Rattle.std.specs.Str.{bytes_eq}
 use Rattle.pe_verilog_read.specs.declared.rtl.Direction.{Direction}
 use Rattle.pe_verilog_read.specs.declared.rtl.Direction.TheVariants.{Input, Output}

@@ -1,6 +1,6 @@
 -- The tokens of Verilog (IEEE 1364) that the form which is built has: names and the marks ( ) , ; = & and the full stop.
 -- White space is space, tab, CR, LF and FF. A comment from // ends with the line, one from /* at */.
-use Rattle.std.specs.Prelude.{ℕ, ◌==◌, Bool, true, false, cond, not, ◌&&◌, ◌||◌, nat_le, List, [], ◌∷◌, ◌++◌, Option, Some, None, codes, if◌then◌else◌}
+use Rattle.std.specs.Prelude.{ℕ, ◌==◌, Bool, false, cond, not, ◌&&◌, ◌||◌, nat_le, List, [], ◌∷◌, codes, if◌then◌else◌}
 use Rattle.std.specs.List.{list_all, list_any}
 use Rattle.pe_base.specs.Walk.{Start, gap, token, bad}
 use Rattle.pe_base.specs.Names.{has_name}

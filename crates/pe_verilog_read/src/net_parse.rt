@@ -36,7 +36,10 @@ fn next_connection(alloc: Global, tokens: &[Name]) -> Result<(Connection, &[Name
 
 /// The connections behind the first. Each has a token at least, so that this many turns are enough.
 #[tactic(auto, unfolding(crate::specs::NetReading::next_connections_at))]
-fn next_connections(alloc: Global, tokens: &[Name]) -> Result<(Items<Connection>, &[Name]), ReadFault>
+fn next_connections(
+    alloc: Global,
+    tokens: &[Name],
+) -> Result<(Items<Connection>, &[Name]), ReadFault>
     ensures { Gives (λ x. (x.0, x.1.now)) result (next_connections_at tokens.now) }
 {
     let mut connections = Items::new(alloc);

@@ -132,8 +132,10 @@ pub fn is_rtl_form(alloc: Global, design: &RtlModule) -> Result<bool, Want>
     let nets = nets(alloc, design)?;
     let driven = driven(alloc, design)?;
     let inputs = input_names(alloc, design.ports.as_slice())?;
-    Ok(is_driven_once(nets.as_slice(), driven.as_slice(), targets.as_slice())
-        && all_read_inputs(inputs.as_slice(), design.items.as_slice()))
+    Ok(
+        is_driven_once(nets.as_slice(), driven.as_slice(), targets.as_slice())
+            && all_read_inputs(inputs.as_slice(), design.items.as_slice()),
+    )
 }
 
 /// Whether no net and no target is there twice, and the targets are the nets that have to be driven. The names that are
@@ -141,5 +143,8 @@ pub fn is_rtl_form(alloc: Global, design: &RtlModule) -> Result<bool, Want>
 fn is_driven_once(nets: &[Name], driven: &[Name], targets: &[Name]) -> bool
     ensures { result ≡ (are_distinct nets.now && are_distinct targets.now && all_among targets.now driven.now && all_among driven.now targets.now) }
 {
-    all_among(targets, driven) && all_among(driven, targets) && are_distinct(targets) && are_distinct(nets)
+    all_among(targets, driven)
+        && all_among(driven, targets)
+        && are_distinct(targets)
+        && are_distinct(nets)
 }

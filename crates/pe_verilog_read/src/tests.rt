@@ -2,7 +2,8 @@ use crate::{Direction, Expr, NetItem, Port, ReadFault, RtlItem, read_net, read_r
 use std::process::Abort;
 use std::test::Fail;
 
-const RTL: &[u8] = b"// one gate\nmodule top(input a,\tinput b /* the second * */, output y_1$)\r\n\x0c;\
+const RTL: &[u8] =
+    b"// one gate\nmodule top(input a,\tinput b /* the second * */, output y_1$)\r\n\x0c;\
     assign y_1$=a&b ;//end\nendmodule // no line end";
 
 const NET: &[u8] = b"module top(input a, input b, output y, input VDD, input VSS);\n wire w;\n\
@@ -21,7 +22,12 @@ fn expect_ports(rt: &impl Abort, ports: &[Port], names: &[&[u8]], outputs: &[&[u
 fn reads(rt: HostRuntime) -> Result<(), Fail> {
     let rtl = read_rtl(rt.alloc(), RTL)?;
     assert!(rt; rtl.name.is(b"top"));
-    expect_ports(&rt, rtl.ports.as_slice(), &[b"a", b"b", b"y_1$"], &[b"y_1$"]);
+    expect_ports(
+        &rt,
+        rtl.ports.as_slice(),
+        &[b"a", b"b", b"y_1$"],
+        &[b"y_1$"],
+    );
     match rtl.items.as_slice() {
         [RtlItem::Assign(assign)] => {
             assert!(rt; assign.target.is(b"y_1$"));
@@ -31,7 +37,12 @@ fn reads(rt: HostRuntime) -> Result<(), Fail> {
     }
 
     let net = read_net(rt.alloc(), NET)?;
-    expect_ports(&rt, net.ports.as_slice(), &[b"a", b"b", b"y", b"VDD", b"VSS"], &[b"y"]);
+    expect_ports(
+        &rt,
+        net.ports.as_slice(),
+        &[b"a", b"b", b"y", b"VDD", b"VSS"],
+        &[b"y"],
+    );
     match net.items.as_slice() {
         [NetItem::Wire(wire), NetItem::Instance(instance)] => {
             assert!(rt; wire.is(b"w"));
@@ -64,8 +75,14 @@ fn refuses(rt: HostRuntime) -> Result<(), Fail> {
         b"module t(input a, output y); endmodule",
     ];
     for (i, text) in texts.iter().enumerate() {
-        assert!(rt; matches!(read_rtl(rt.alloc(), *text), Err(ReadFault::NotBuilt)), "RTL text {i}");
-        assert!(rt; matches!(read_net(rt.alloc(), *text), Err(ReadFault::NotBuilt)), "netlist text {i}");
+        assert!(rt;
+            matches!(read_rtl(rt.alloc(), *text), Err(ReadFault::NotBuilt)),
+            "RTL text {i}"
+        );
+        assert!(rt;
+            matches!(read_net(rt.alloc(), *text), Err(ReadFault::NotBuilt)),
+            "netlist text {i}"
+        );
     }
     Ok(())
 }

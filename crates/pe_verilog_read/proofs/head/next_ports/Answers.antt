@@ -1,6 +1,6 @@
-use Rattle.std.proofs.Common.{◌≡◌, true, sym, ap, ◌∙◌, length}
-use Rattle.std.specs.Prelude.{codes, not}
-use Rattle.pe_verilog_read.specs.Reading.{is_next, many_at, next_port_at, next_ports_at, with_front}
+use Rattle.std.proofs.Common.{◌≡◌, true, sym, ◌∙◌, length}
+use Rattle.std.specs.Prelude.{codes}
+use Rattle.pe_verilog_read.specs.Reading.{is_next, next_port_at, next_ports_at}
 use Rattle.pe_verilog_read.proofs.Loop.{goes_on}
 use Rattle.pe_verilog_read.proofs.head.next_ports.Goals as goal
 

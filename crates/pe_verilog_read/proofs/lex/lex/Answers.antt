@@ -1,7 +1,6 @@
-use Rattle.std.proofs.Common.{◌≡◌, ◌≢◌, List, [], ◌∷◌, ◌++◌, ℕ, Bool, true, false, ◌==◌, refl, sym, ap, ◌∙◌, subst, length}
+use Rattle.std.proofs.Common.{◌≡◌, ◌≢◌, List, [], ◌∷◌, ℕ, true, false, ◌==◌, refl, sym, subst, length}
 use Rattle.std.proofs.lemmas.Bool.{eqb-true}
 use Rattle.std.proofs.lemmas.List.{nil_from_length}
-use Rattle.pe_base.specs.Walk.{gap, token, bad, IsCut}
 use Rattle.pe_base.proofs.Walks.{Reaches, reaches_start, reaches_gap, reaches_token, cut_found, cut_only, cut_bad}
 use Rattle.pe_verilog_read.specs.Tokens.{verilog_start}
 use Rattle.pe_verilog_read.proofs.Shrinks.{gap_shorter, token_shorter}

@@ -1,6 +1,6 @@
-use Rattle.std.proofs.Common.{◌≡◌, true, sym, ap, ◌∙◌, length}
-use Rattle.std.specs.Prelude.{codes, not}
-use Rattle.pe_verilog_read.specs.Reading.{many_at, with_front, is_next}
+use Rattle.std.proofs.Common.{◌≡◌, true, sym, ◌∙◌, length}
+use Rattle.std.specs.Prelude.{codes}
+use Rattle.pe_verilog_read.specs.Reading.{is_next}
 use Rattle.pe_verilog_read.specs.NetReading.{next_connection_at, next_connections_at}
 use Rattle.pe_verilog_read.proofs.Loop.{goes_on}
 use Rattle.pe_verilog_read.proofs.net_parse.next_connections.Goals as goal

@@ -17,9 +17,9 @@ returns-in_err-design-clause-only c =
 pub returns-then-not-branch-clause-only : goal.returns-then-not-branch-clause-only
 returns-then-not-branch-clause-only c =
     λ m s.
-      let f : is_rtl_form c.in_ok-design.design ≡ true = same_form c.args.text.now c.in_ok-tokens.tokens c.in_ok-design.design m c.in_ok-tokens.ensures (rw c.as_slice.ensures at c.in_ok-design.ensures) s in
-      let g : is_rtl_form c.in_ok-design.design ≡ false = sym c.in_ok-is_rtl_form.ensures ∙ c.if-not-branch.true in
-      cc
+    let f : is_rtl_form c.in_ok-design.design ≡ true = same_form c.args.text.now c.in_ok-tokens.tokens c.in_ok-design.design m c.in_ok-tokens.ensures (rw c.as_slice.ensures at c.in_ok-design.ensures) s in
+    let g : is_rtl_form c.in_ok-design.design ≡ false = sym c.in_ok-is_rtl_form.ensures ∙ c.if-not-branch.true in
+    cc
 
 pub returns-clause-found : goal.returns-clause-found
 returns-clause-found c =

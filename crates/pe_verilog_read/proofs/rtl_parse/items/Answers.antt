@@ -1,6 +1,5 @@
 use Rattle.std.proofs.Common.{◌≡◌, true, sym, ap, ◌∙◌, length}
-use Rattle.std.specs.Prelude.{codes, not}
-use Rattle.pe_verilog_read.specs.Reading.{many_at, with_front}
+use Rattle.std.specs.Prelude.{not}
 use Rattle.pe_verilog_read.specs.RtlReading.{is_inside, rtl_item_at, rtl_items_at}
 use Rattle.pe_verilog_read.proofs.Loop.{goes_on}
 use Rattle.pe_verilog_read.proofs.rtl_parse.items.Goals as goal
