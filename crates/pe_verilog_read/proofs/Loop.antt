@@ -1,18 +1,10 @@
 -- A loop that reads many, from one turn to the next.
-use Rattle.std.proofs.Common.{◌≡◌, ℕ, suc, ◌+◌, ◌-◌, ◌<◌, ◌≤◌, Bool, true, false, cond, List, [], ◌∷◌, ◌++◌, Option, Some, None, refl, sym, ap, ◌∙◌, append_assoc, append-nil, arith}
+use Rattle.std.proofs.Common.{◌≡◌, ℕ, suc, ◌+◌, ◌-◌, ◌<◌, Bool, true, cond, List, [], ◌∷◌, ◌++◌, Some, None, refl, sym, ap, ◌∙◌, append_assoc, arith}
 use Rattle.pe_verilog_read.specs.Reading.{Reading, ◌>>=◌, many_at, with_front}
-
-bind_bind : {A B C : Type 0} (o : Option A) (f : A → Option B) (g : B → Option C) → ((o >>= f) >>= g) ≡ (o >>= λ x. f x >>= g)
-bind_bind (Some x) f g = refl
-bind_bind None f g = refl
 
 front_more : {X : Type 0} (done : List X) (x : X) (read : Reading (List X)) → with_front done (read >>= λ xs. Some (x ∷ xs.0, xs.1)) ≡ with_front (done ++ x ∷ []) read
 front_more done x (Some xs) = ap (λ l. Some (l, xs.1)) (sym (append_assoc done (x ∷ []) xs.0))
 front_more done x None = refl
-
-with_nothing : {X : Type 0} (read : Reading (List X)) → with_front [] read ≡ read
-with_nothing (Some xs) = refl
-with_nothing None = refl
 
 -- what many_at does at a count above zero
 abbrev turn_of : {X : Type 0} → (List (List ℕ) → Bool) → (List (List ℕ) → Reading X) → ℕ → List (List ℕ) → Reading (List X)
@@ -28,26 +20,3 @@ goes_on goes one done n i ts x after read lt g o e =
     ∙ ap (λ r. with_front done (r >>= λ y. many_at goes one (n - (i + 1)) y.1 >>= λ xs. Some (y.0 ∷ xs.0, xs.1))) (sym o)
     ∙ ap (λ b. with_front done (cond b (one ts >>= λ y. many_at goes one (n - (i + 1)) y.1 >>= λ xs. Some (y.0 ∷ xs.0, xs.1)) (Some ([], ts)))) (sym g)
     ∙ ap (with_front done) (sym (turn goes one n i ts lt)) ∙ e
-
--- no further one is there
-pub stops : {X : Type 0} (goes : List (List ℕ) → Bool) (one : List (List ℕ) → Reading X) (done : List X) (n i : ℕ) (ts : List (List ℕ)) (read : Reading (List X)) →
-    i < n → goes ts ≡ false → with_front done (many_at goes one (n - i) ts) ≡ read → read ≡ Some (done, ts)
-stops goes one done n i ts read lt g e =
-    sym e ∙ ap (with_front done) (turn goes one n i ts lt)
-    ∙ ap (λ b. with_front done (cond b (one ts >>= λ y. many_at goes one (n - (i + 1)) y.1 >>= λ xs. Some (y.0 ∷ xs.0, xs.1)) (Some ([], ts)))) g
-    ∙ ap (λ l. Some (l, ts)) (append-nil done)
-
--- the next one is not read
-pub fails : {X : Type 0} (goes : List (List ℕ) → Bool) (one : List (List ℕ) → Reading X) (done : List X) (n i : ℕ) (ts : List (List ℕ)) (read : Reading (List X)) →
-    i < n → goes ts ≡ true → one ts ≡ None → with_front done (many_at goes one (n - i) ts) ≡ read → read ≡ None
-fails goes one done n i ts read lt g o e =
-    sym e ∙ ap (with_front done) (turn goes one n i ts lt)
-    ∙ ap (λ b. with_front done (cond b (one ts >>= λ y. many_at goes one (n - (i + 1)) y.1 >>= λ xs. Some (y.0 ∷ xs.0, xs.1)) (Some ([], ts)))) g
-    ∙ ap (λ r. with_front done (r >>= λ y. many_at goes one (n - (i + 1)) y.1 >>= λ xs. Some (y.0 ∷ xs.0, xs.1))) o
-
--- the turns are over
-pub is_spent : {X : Type 0} (goes : List (List ℕ) → Bool) (one : List (List ℕ) → Reading X) (done : List X) (n i : ℕ) (ts : List (List ℕ)) (read : Reading (List X)) →
-    n ≤ i → with_front done (many_at goes one (n - i) ts) ≡ read → read ≡ None
-is_spent goes one done n i ts read le e =
-    let z : n - i ≡ 0 = omega arith in
-    sym e ∙ ap (λ k. with_front done (many_at goes one k ts)) z

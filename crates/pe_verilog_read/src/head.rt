@@ -1,6 +1,6 @@
 //! Reads tokens, and the head that both modules have.
 
-ghost use Rattle.std.specs.Prelude.{◌≡◌, length};
+ghost use Rattle.std.specs.Prelude.{◌≡◌};
 ghost use Rattle.pe_verilog_read.specs.Reading.{Gives, behind, is_next, name_at, direction_at, port_at, next_port_at, next_ports_at, ports_at, head_at};
 
 use crate::fault::ReadFault;

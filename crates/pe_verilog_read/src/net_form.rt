@@ -1,6 +1,6 @@
 //! The form of a netlist module that is built.
 
-ghost use Rattle.std.specs.Prelude.{◌≡◌, ◌+◌, IfOk, length};
+ghost use Rattle.std.specs.Prelude.{◌≡◌, IfOk, length};
 ghost use Rattle.std.specs.List.{list_all};
 ghost use Rattle.pe_verilog_read.specs.Rtl.{all_among};
 ghost use Rattle.pe_verilog_read.specs.Net.{net_wires, instances, net_nets, pins, connected_nets, is_connected, is_net_form};

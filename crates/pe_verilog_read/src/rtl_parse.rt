@@ -1,6 +1,6 @@
 //! Reads an RTL module from its tokens.
 
-ghost use Rattle.std.specs.Prelude.{◌≡◌, ◌↔◌};
+ghost use Rattle.std.specs.Prelude.{◌≡◌};
 ghost use Rattle.pe_verilog_read.specs.Reading.{Gives};
 ghost use Rattle.pe_verilog_read.specs.RtlReading.{expr_at, wire_at, assign_at, rtl_item_at, rtl_items_at, rtl_at, ends};
 

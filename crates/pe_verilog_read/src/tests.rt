@@ -58,7 +58,7 @@ fn reads(rt: HostRuntime) -> Result<(), Fail> {
 
 #[test]
 fn refuses(rt: HostRuntime) -> Result<(), Fail> {
-    let texts: [&[u8]; 14] = [
+    let texts: [&[u8]; 18] = [
         b"",
         b"module t(input a, input b, output y); assign y = a | b; endmodule",
         b"module t(input a, input b, output y); assign y = a && b; endmodule",
@@ -73,6 +73,10 @@ fn refuses(rt: HostRuntime) -> Result<(), Fail> {
         b"module t(input a, input a, output y); assign y = a; endmodule",
         b"module t(input a, output y,); assign y = a; endmodule",
         b"module t(input a, output y); endmodule",
+        b"module t(input a, output y); BUF u (.A(a), .Y(y)); BUF v (.A(a), .Y(y)); endmodule",
+        b"module t(input a, output y); BUF u (.A(b), .Y(y)); endmodule",
+        b"module t(input a, output y); BUF u (.A(a), .A(y)); endmodule",
+        b"module t(input a, output y); buf u (.A(a), .Y(y)); endmodule",
     ];
     for (i, text) in texts.iter().enumerate() {
         assert!(rt;
