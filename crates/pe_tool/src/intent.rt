@@ -161,3 +161,146 @@ pub fn power_intent(alloc: Global, commands: &[Command]) -> Result<PowerIntent, 
 pub fn one_intent()
     ensures { (cs : List Command) (i j : PowerIntent) → IsIntent cs i → IsIntent cs j → i ≡ j }
 {}
+
+#[cfg(test)]
+mod tests {
+    use super::*;
+    use crate::upf::PortState;
+    use std::test::Fail;
+
+    fn name(alloc: Global, text: &str) -> Result<Name, FormFault> {
+        Ok(Name::new(alloc, text.as_bytes())?)
+    }
+
+    fn names(alloc: Global, texts: &[&str]) -> Result<Items<Name>, FormFault> {
+        let mut names = Items::new(alloc);
+        for text in texts {
+            names.push(name(alloc, text)?)?;
+        }
+        Ok(names)
+    }
+
+    fn port(alloc: Global, port: &str) -> Result<Command, FormFault> {
+        Ok(Command::CreateSupplyPort {
+            name: name(alloc, port)?,
+        })
+    }
+
+    fn net(alloc: Global, net: &str) -> Result<Command, FormFault> {
+        Ok(Command::CreateSupplyNet {
+            name: name(alloc, net)?,
+            domain: name(alloc, "PD")?,
+        })
+    }
+
+    fn connected(alloc: Global, net: &str) -> Result<Command, FormFault> {
+        Ok(Command::ConnectSupplyNet {
+            net: name(alloc, net)?,
+            port: name(alloc, net)?,
+        })
+    }
+
+    fn table(alloc: Global, table: &str) -> Result<Command, FormFault> {
+        Ok(Command::CreatePst {
+            name: name(alloc, table)?,
+            supplies: names(alloc, &["VDD", "VSS"])?,
+        })
+    }
+
+    /// A port with two states, each of one value.
+    fn states(
+        alloc: Global,
+        port: &str,
+        first: [&str; 2],
+        second: [&str; 2],
+    ) -> Result<Command, FormFault> {
+        let mut states = Items::new(alloc);
+        states.push(PortState {
+            name: name(alloc, first[0])?,
+            values: names(alloc, &[first[1]])?,
+        })?;
+        states.push(PortState {
+            name: name(alloc, second[0])?,
+            values: names(alloc, &[second[1]])?,
+        })?;
+        Ok(Command::AddPortState {
+            port: name(alloc, port)?,
+            states,
+        })
+    }
+
+    /// The commands of a design of one gate, with these words in the row.
+    fn commands(alloc: Global, words: &[&str]) -> Result<Items<Command>, FormFault> {
+        let mut commands = Items::new(alloc);
+        commands.push(Command::SetDesignTop {
+            top: name(alloc, "top")?,
+        })?;
+        commands.push(Command::CreatePowerDomain {
+            name: name(alloc, "PD")?,
+        })?;
+        commands.push(port(alloc, "VDD")?)?;
+        commands.push(port(alloc, "VSS")?)?;
+        commands.push(net(alloc, "VDD")?)?;
+        commands.push(net(alloc, "VSS")?)?;
+        commands.push(connected(alloc, "VDD")?)?;
+        commands.push(connected(alloc, "VSS")?)?;
+        commands.push(Command::SetDomainSupplyNet {
+            domain: name(alloc, "PD")?,
+            power_net: name(alloc, "VDD")?,
+            ground_net: name(alloc, "VSS")?,
+        })?;
+        commands.push(states(alloc, "VDD", ["HV", "1.0"], ["OFF", "off"])?)?;
+        commands.push(states(alloc, "VSS", ["GND", "0.0"], ["GND", "off"])?)?;
+        commands.push(table(alloc, "T")?)?;
+        commands.push(Command::AddPstState {
+            name: name(alloc, "ON")?,
+            table: name(alloc, "T")?,
+            states: names(alloc, words)?,
+        })?;
+        Ok(commands)
+    }
+
+    #[test]
+    fn levels_of_rows(rt: HostRuntime) -> Result<(), Fail> {
+        let alloc = rt.alloc();
+        let rows = [
+            (["HV", "GND"], [Level::On, Level::On]),
+            (["OFF", "GND"], [Level::Off, Level::On]),
+            (["*", "GND"], [Level::Any, Level::On]),
+        ];
+        for (words, levels) in rows {
+            let commands = commands(alloc, &words)?;
+            let intent = power_intent(alloc, commands.as_slice())?;
+            assert!(rt; intent.top.is(b"top"));
+            assert_eq!(rt; intent.roots.len(), 2);
+            assert_eq!(rt; place_of(intent.roots.as_slice(), b"VDD"), 0);
+            assert_eq!(rt; place_of(intent.roots.as_slice(), b"VSS"), 1);
+            assert_eq!(rt; intent.primary_power, 0);
+            assert_eq!(rt; intent.primary_ground, 1);
+            assert_eq!(rt; intent.table.as_slice(), [0, 1].as_slice());
+            assert_eq!(rt; intent.rows.len(), 1);
+            let row = intent.rows.get(0).ok_or("no row")?;
+            assert!(rt; row.name.is(b"ON"));
+            assert_eq!(rt; row.levels.as_slice(), levels.as_slice());
+        }
+        Ok(())
+    }
+
+    #[test]
+    fn refused(rt: HostRuntime) -> Result<(), Fail> {
+        let alloc = rt.alloc();
+        let unknown = commands(alloc, &["LOW", "GND"])?;
+        let short = commands(alloc, &["HV"])?;
+        let mut supplies = commands(alloc, &["HV", "GND"])?;
+        supplies.push(port(alloc, "VREF")?)?;
+        let mut tables = commands(alloc, &["HV", "GND"])?;
+        tables.push(table(alloc, "U")?)?;
+        for commands in [&unknown, &short, &supplies, &tables] {
+            assert_eq!(rt;
+                power_intent(alloc, commands.as_slice()).err(),
+                Some(FormFault::NotBuilt)
+            );
+        }
+        Ok(())
+    }
+}

@@ -36,3 +36,18 @@ pub(crate) fn is_map(text: &[u8]) -> bool
 {
     text.len() <= LONGEST && is_blank(text)
 }
+
+#[cfg(test)]
+mod tests {
+    use super::*;
+
+    #[test]
+    fn maps(rt: HostRuntime) {
+        for text in ["", " \t\n", "# a b", "# a b\n \n#\n"] {
+            assert!(rt; is_map(text.as_bytes()), "{text:?}");
+        }
+        for text in ["a b", "# a b\na b", "\r\n"] {
+            assert!(rt; !is_map(text.as_bytes()), "{text:?}");
+        }
+    }
+}

@@ -41,13 +41,12 @@ fn level_among(states: &[PortState], word: &Name) -> Option<Level>
 fn level_at(command: &Command, supply: &Name, word: &Name) -> Option<Level>
     ensures { result ≡ level_among (states_of supply.now (command.now ∷ [])) word.now }
 {
-    match command {
-        Command::AddPortState { port, states } if port.is(supply.bytes()) => level_among(
-            states.as_slice(),
-            word,
-        ),
-        _ => None,
+    if let Command::AddPortState { port, states } = command
+        && port.is(supply.bytes())
+    {
+        return level_among(states.as_slice(), word);
     }
+    None
 }
 
 /// The level that the first of a supply's states stands for, by its name.
