@@ -16,3 +16,4 @@ pub mod Fit
 pub mod Questions
 pub mod Equivalent
 pub mod Outcome
+pub mod Report
