@@ -17,3 +17,5 @@ pub mod Questions
 pub mod Equivalent
 pub mod Outcome
 pub mod Report
+pub mod Run
+pub mod Reads
