@@ -105,3 +105,15 @@ output_is_port (p ∷ ps) name e = at_head p.direction refl (output_is_port ps n
 pub has_itself : (before after : List (List ℕ)) (name : List ℕ) → has_name (before ++ name ∷ after) name ≡ true
 has_itself [] after name = ap (λ b. b || has_name after name) ((bytes_eq-Decides name name).1 refl)
 has_itself (other ∷ before) after name = or_right (bytes_eq other name) (has_name (before ++ name ∷ after) name) (has_itself before after name)
+
+-- the value by name in a map that is computed by name: corrupt where no net has the name
+pub value_in-map_any : (f : List ℕ → Val) (names : List (List ℕ)) (name : List ℕ) → value_in names (map f names) name ≡ cond (has_name names name) (f name) Corrupt
+value_in-map_any f [] name = refl
+value_in-map_any f (other ∷ names) name = at_head (bytes_eq other name) refl (value_in-map_any f names name)
+  where
+    at_head : (b : Bool) → bytes_eq other name ≡ b → value_in names (map f names) name ≡ cond (has_name names name) (f name) Corrupt →
+        get_or (f other ∷ map f names) (cond (bytes_eq other name) 0 (1 + place_of names name)) Corrupt ≡ cond (bytes_eq other name || has_name names name) (f name) Corrupt
+    at_head true k more = rw k (ap f (same_name other name k))
+    at_head false k more =
+        let next : 1 + place_of names name ≡ suc (place_of names name) = omega arith in
+        rw (k, next) more

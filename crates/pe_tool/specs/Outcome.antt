@@ -49,6 +49,10 @@ IsTooWide t count = (d : Design) × IsDesign t d × (8 < input_count d) × (coun
 abbrev pub IsPlain : Texts → Plain → Type 0
 IsPlain t p = (d : Design) × IsDesign t d × (input_count d ≤ 8) × (p.questions ≡ questions d) × (p.answers ≡ answers d)
 
+-- likewise, with the design
+abbrev pub IsReported : Texts → Design → Plain → Type 0
+IsReported t d p = IsDesign t d × (input_count d ≤ 8) × (p.questions ≡ questions d) × (p.answers ≡ answers d)
+
 -- the answer is right; where memory ran out nothing is said
 abbrev pub IsOutcome : Texts → Result Plain CheckFault → Type 0
 IsOutcome t (Ok p) = IsPlain t p

@@ -1,13 +1,13 @@
 -- What the program is about to write, and why.
-use Rattle.std.specs.Prelude.{◌≡◌, ℕ, List, Option, string_bytes}
+use Rattle.std.specs.Prelude.{◌≡◌, ℕ, List, Option}
 use Rattle.pe_base.specs.declared.text.Texts.{Texts}
 use Rattle.pe_tool.specs.declared.run.Said.{Said}
 use Rattle.pe_tool.specs.Run.{Saying, IsCause, IsRight, status_of, bytes_of}
 
--- a status and a text are those of a saying
+-- a status and bytes are those of a saying
 pub record Says (saying : Saying) (said : Said) : Type 0 where
   pub status : said.status ≡ status_of saying
-  pub text : string_bytes said.text ≡ bytes_of saying
+  pub bytes : said.bytes ≡ bytes_of saying
 
 -- what is said of the texts is right
 pub record IsJudged (t : Texts) (said : Said) : Type 0 where

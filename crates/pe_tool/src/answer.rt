@@ -1,16 +1,13 @@
 //! The answers of a design, by trying all assignments of its roots and inputs in counting order.
 
 ghost use Rattle.std.specs.Prelude.{◌≡◌, ◌≤◌, ◌++◌, [], Bool, true, IfOk, map, find, if◌then◌else◌};
-ghost use Rattle.pe_base.specs.Names.{has_name};
-ghost use Rattle.pe_verilog_read.specs.Ports.{output_names};
-ghost use Rattle.pe_tool.specs.Fit.{is_fit};
 ghost use Rattle.pe_tool.specs.Rows.{meets, levels_hold, row_holds, domain_on};
 ghost use Rattle.pe_tool.specs.Questions.{is_refined, assignments, width, roots_of, inputs_of, rtl_output, net_output, refutes, first_refuting, row_answers, answers};
 
 use crate::design::Design;
 use crate::intent::{Level, PowerIntent, Row};
 use crate::net_value::{extended, net_value, on_at};
-use crate::ports::input_count;
+use crate::ports::{input_count, is_net_net, is_rtl_net};
 use crate::rtl_value::rtl_value;
 use pe_base::{Val, Want, refines};
 use pe_verilog_read::Direction;
@@ -62,25 +59,53 @@ fn is_refined(net: Val, rtl: Val) -> bool
 }
 
 // The roots' states and the inputs' bits of an assignment.
-fn split<'a>(d: &Design, bits: &'a [bool]) -> (&'a [bool], &'a [bool])
+pub(crate) fn split<'a>(d: &Design, bits: &'a [bool]) -> (&'a [bool], &'a [bool])
     ensures roots { result.0.now ≡ roots_of d.now bits.now }
     ensures inputs { result.1.now ≡ inputs_of d.now bits.now }
 {
     bits.split_at(d.intent.roots.len().min(bits.len()))
 }
 
-// Whether the row holds under the assignment and the output does not refine.
-fn refutes(alloc: Global, d: &Design, row: &Row, output: &[u8], bits: &[bool]) -> Result<bool, Want>
-    requires fits { is_fit d.now ≡ true }
-    requires there { has_name (output_names d.now.rtl.ports) output.now ≡ true }
-    ensures { IfOk result (λ b. b ≡ refutes d.now row.now output.now bits.now) }
+// The RTL's value of a net in its settled map.
+pub(crate) fn rtl_output(d: &Design, bits: &[bool], output: &[u8]) -> Val
+    ensures { result ≡ rtl_output d.now bits.now output.now }
 {
     let (roots, inputs) = split(d, bits);
+    if is_rtl_net(&d.rtl, output) {
+        rtl_value(&d.rtl, domain_on(&d.intent, roots), inputs, output)
+    } else {
+        Val::Corrupt
+    }
+}
+
+// The netlist's value of a net in its settled map.
+pub(crate) fn net_output(
+    alloc: Global,
+    d: &Design,
+    bits: &[bool],
+    output: &[u8],
+) -> Result<Val, Want>
+    ensures { IfOk result (λ v. v ≡ net_output d.now bits.now output.now) }
+{
+    let (roots, inputs) = split(d, bits);
+    if is_net_net(&d.net, output) {
+        let value = net_value(alloc, d, roots, inputs, output)?;
+        Ok(value)
+    } else {
+        Ok(Val::Corrupt)
+    }
+}
+
+// Whether the row holds under the assignment and the output does not refine.
+fn refutes(alloc: Global, d: &Design, row: &Row, output: &[u8], bits: &[bool]) -> Result<bool, Want>
+    ensures { IfOk result (λ b. b ≡ refutes d.now row.now output.now bits.now) }
+{
+    let (roots, _) = split(d, bits);
     if !row_holds(&d.intent, row, roots) {
         return Ok(false);
     }
-    let rtl = rtl_value(&d.rtl, domain_on(&d.intent, roots), inputs, output);
-    let net = net_value(alloc, d, roots, inputs, output)?;
+    let rtl = rtl_output(d, bits, output);
+    let net = net_output(alloc, d, bits, output)?;
     Ok(!is_refined(net, rtl))
 }
 
@@ -92,8 +117,6 @@ fn itself(
     output: &[u8],
     bits: &[bool],
 ) -> Result<Option<Items<bool>>, Want>
-    requires fits { is_fit d.now ≡ true }
-    requires there { has_name (output_names d.now.rtl.ports) output.now ≡ true }
     ensures { IfOk result (λ found. found ≡ (if refutes d.now row.now output.now bits.now then Some bits.now else None)) }
 {
     if refutes(alloc, d, row, output, bits)? {
@@ -113,8 +136,6 @@ fn search(
     bits: &[bool],
     left: usize,
 ) -> Result<Option<Items<bool>>, Want>
-    requires fits { is_fit d.now ≡ true }
-    requires there { has_name (output_names d.now.rtl.ports) output.now ≡ true }
     ensures { IfOk result (λ found. found ≡ find (refutes d.now row.now output.now) (map (λ more. bits.now ++ more) (assignments left))) }
 {
     if left == 0 {
@@ -138,9 +159,7 @@ fn first_refuting(
     row: &Row,
     output: &[u8],
 ) -> Result<Option<Items<bool>>, Want>
-    requires fits { is_fit d.now ≡ true }
-    requires narrow { width d.now ≤ 10 }
-    requires there { has_name (output_names d.now.rtl.ports) output.now ≡ true }
+    requires { width d.now ≤ 10 }
     ensures { IfOk result (λ found. found ≡ first_refuting d.now row.now output.now) }
 {
     let width = d.intent.roots.len() + input_count(d.rtl.ports.as_slice());
@@ -150,8 +169,7 @@ fn first_refuting(
 
 // The answers of a row, one for each output.
 fn row_answers(alloc: Global, d: &Design, row: &Row) -> Result<Items<Option<Items<bool>>>, Want>
-    requires fits { is_fit d.now ≡ true }
-    requires narrow { width d.now ≤ 10 }
+    requires { width d.now ≤ 10 }
     ensures { IfOk result (λ list. list ≡ row_answers d.now row.now) }
 {
     let mut list = Items::new(alloc);
@@ -169,8 +187,7 @@ fn row_answers(alloc: Global, d: &Design, row: &Row) -> Result<Items<Option<Item
 /// An answer for each row and output, by row: the first assignment of the roots and then the inputs, in counting order, on
 /// which the row holds and the output does not refine; or none.
 pub(crate) fn answers(alloc: Global, d: &Design) -> Result<Items<Option<Items<bool>>>, Want>
-    requires fits { is_fit d.now ≡ true }
-    requires narrow { width d.now ≤ 10 }
+    requires { width d.now ≤ 10 }
     ensures { IfOk result (λ list. list ≡ answers d.now) }
 {
     let mut list = Items::new(alloc);

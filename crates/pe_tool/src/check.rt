@@ -1,6 +1,6 @@
 //! The check of five texts by one worker.
 
-ghost use Rattle.std.specs.Prelude.{◌≡◌, ◌≤◌, not, true, false, IfOk, IfErr, IsErrOf, Result, length};
+ghost use Rattle.std.specs.Prelude.{◌≡◌, ◌≤◌, not, true, false, IfOk, IfErr, IsErrOf, Result, Err, length};
 ghost use Rattle.pe_base.specs.Names.{has_name};
 ghost use Rattle.pe_verilog_read.specs.Ports.{port_names};
 ghost use Rattle.pe_tool.specs.declared.intent.PowerIntent.{PowerIntent};
@@ -14,7 +14,7 @@ ghost use Rattle.pe_tool.specs.declared.design.Design.{Design};
 ghost use Rattle.pe_tool.specs.Fit.{is_fit};
 ghost use Rattle.pe_tool.specs.Map.{IsMap};
 ghost use Rattle.pe_tool.specs.Equivalent.{are_apart, IsPower, IsNetlist, IsNetlistOf, IsDesignAnswer, IsDesign};
-ghost use Rattle.pe_tool.specs.Outcome.{IsBuilt, IsOutcome, IsSame, IsRefused, input_count, told_count};
+ghost use Rattle.pe_tool.specs.Outcome.{IsBuilt, IsOutcome, IsSame, IsRefused, IsReported, input_count, told_count};
 ghost use Rattle.pe_tool.specs.Questions.{questions, answers, width};
 
 use crate::answer::answers;
@@ -215,13 +215,38 @@ fn design_of(alloc: Global, texts: &Texts) -> Result<Design, CheckFault>
 
 // The questions and answers of a design.
 fn plain_of(alloc: Global, d: &Design) -> Result<Plain, Want>
-    requires fits { is_fit d.now ≡ true }
-    requires narrow { width d.now ≤ 10 }
+    requires { width d.now ≤ 10 }
     ensures { IfOk result (λ p. (p.questions ≡ questions d.now) × (p.answers ≡ answers d.now)) }
 {
     let questions = questions(alloc, d)?;
     let answers = answers(alloc, d)?;
     Ok(Plain { questions, answers })
+}
+
+// The design of a check, and its questions and answers.
+pub(crate) struct Checked {
+    pub design: Design,
+    pub plain: Plain,
+}
+
+// The design of five texts, and its questions and answers.
+pub(crate) fn check_design(alloc: Global, texts: &Texts) -> Result<Checked, CheckFault>
+    ensures found { IfOk result (λ c. IsReported texts.now c.design c.plain) }
+    ensures refused { IfErr result (λ fault. IsOutcome texts.now (Err fault)) }
+{
+    let design = match design_of(alloc, texts) {
+        Ok(design) => design,
+        Err(fault) => return Err(fault),
+    };
+    let count = input_count(design.rtl.ports.as_slice());
+    if count > 8 {
+        let count = told_count(count);
+        return Err(CheckFault::Refused(Part::Rtl, Fault::TooWide { count }));
+    }
+    match plain_of(alloc, &design) {
+        Ok(plain) => Ok(Checked { design, plain }),
+        Err(_) => Err(CheckFault::Memory),
+    }
 }
 
 /// The questions of a check and their answers, by trying all assignments: one question for each row and output, and for
@@ -242,18 +267,12 @@ pub fn check_alone(alloc: Global, texts: &Texts) -> Result<Plain, CheckFault>
     one_library();
     one_net();
     one_view();
-    let design = match design_of(alloc, texts) {
-        Ok(design) => design,
-        Err(fault) => return Err(fault),
-    };
-    let count = input_count(design.rtl.ports.as_slice());
-    if count > 8 {
-        let count = told_count(count);
-        return Err(CheckFault::Refused(Part::Rtl, Fault::TooWide { count }));
-    }
-    match plain_of(alloc, &design) {
-        Ok(plain) => Ok(plain),
-        Err(_) => Err(CheckFault::Memory),
+    match check_design(alloc, texts) {
+        Ok(Checked { design, plain }) => {
+            let _ = design;
+            Ok(plain)
+        }
+        Err(fault) => Err(fault),
     }
 }
 

@@ -8,35 +8,36 @@ ghost use Rattle.pe_tool.specs.Report.{usage};
 ghost use Rattle.pe_tool.specs.Run.{FileNames, AreTold, NoneRose, OfTexts, HasMismatch, IsRefusedRun, IsUnreadRun, IsSaidRun, IsJudgedRun, words_of, names_of, name_list};
 ghost use Rattle.pe_tool.specs.Said.{Says, IsJudged, IsSaid};
 
-use crate::check::{check_alone, one_design};
+use crate::check::{Checked, check_design, one_design};
 use crate::question::CheckFault;
 use crate::read::{ReadStop, read_texts};
 use crate::report::{read_fault, refusal, report, report_status, usage};
 use crate::words::names_of;
 use pe_base::{Texts, Want};
 use pe_outside::{Files, Sink, write_all};
+use sqlite_items::Items;
 use std::alloc::Global;
 
 // What is about to be written, with its status.
 #[derive(Drop)]
 pub(crate) struct Said {
     pub status: u8,
-    pub text: String,
+    pub bytes: Items<u8>,
 }
 
 // What is said of five texts.
 fn judge(alloc: Global, texts: &Texts) -> Result<Said, Want>
     ensures { IfOk result (IsJudged texts.now) }
 {
-    match check_alone(alloc, texts) {
-        Ok(plain) => {
-            let text = report(alloc, &plain)?;
+    match check_design(alloc, texts) {
+        Ok(Checked { design, plain }) => {
+            let bytes = report(alloc, &design, &plain)?;
             let status = report_status(&plain);
-            Ok(Said { status, text })
+            Ok(Said { status, bytes })
         }
         Err(CheckFault::Refused(part, fault)) => {
-            let text = refusal(alloc, part, fault)?;
-            Ok(Said { status: 3, text })
+            let bytes = refusal(alloc, part, fault)?;
+            Ok(Said { status: 3, bytes })
         }
         Err(CheckFault::Memory) => Err(Want),
     }
@@ -48,14 +49,14 @@ fn say<F: Files>(alloc: Global, words: &[String], files: &mut F) -> Result<Said,
 {
     match names_of(words) {
         None => {
-            let text = usage(alloc)?;
-            Ok(Said { status: 6, text })
+            let bytes = usage(alloc)?;
+            Ok(Said { status: 6, bytes })
         }
         Some(names) => match read_texts(alloc, files, names) {
             Ok(texts) => judge(alloc, &texts),
             Err(ReadStop::Failed(name)) => {
-                let text = read_fault(alloc, name)?;
-                Ok(Said { status: 4, text })
+                let bytes = read_fault(alloc, name)?;
+                Ok(Said { status: 4, bytes })
             }
             Err(ReadStop::Memory) => Err(Want),
         },
@@ -102,7 +103,7 @@ pub fn run_alone<F: Files, S: Sink>(
     one_design();
     match say(alloc, words, files) {
         Err(_) => 7,
-        Ok(said) => match write_all(out, said.text.as_str().as_bytes()) {
+        Ok(said) => match write_all(out, said.bytes.as_slice()) {
             Ok(()) => said.status,
             Err(_) => 5,
         },
