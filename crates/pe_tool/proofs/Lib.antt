@@ -24,3 +24,4 @@ pub mod FunctionJoined
 pub mod FunctionSums
 pub mod CellZips
 pub mod CellViews
+pub mod Standing

@@ -16,3 +16,6 @@ pub mod Fit
 pub mod Questions
 pub mod Equivalent
 pub mod Outcome
+pub mod Report
+pub mod Run
+pub mod Reads

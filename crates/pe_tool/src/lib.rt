@@ -13,6 +13,8 @@ mod net_value;
 mod ports;
 mod map;
 mod question;
+mod read;
+mod report;
 mod rtl_value;
 mod upf;
 

@@ -1,0 +1,89 @@
+-- What the program answers to its words, over files and an output.
+use Rattle.std.specs.Prelude.{◌≡◌, ◌⊎◌, ℕ, ◌<◌, ◌≤◌, ◌==◌, Bool, true, false, cond, not, ◌&&◌, List, [], ◌∷◌, ◌++◌, length, codes, Option, Some, None, Result, Ok, Err}
+use Rattle.std.specs.List.{list_all}
+use Rattle.std.specs.Str.{bytes_eq}
+use Rattle.pe_base.specs.declared.text.Texts.{Texts}
+use Rattle.pe_outside.specs.Outside.{HasRisen, grown, GrowsByPrefix}
+use Rattle.pe_tool.specs.declared.question.Plain.{Plain}
+use Rattle.pe_tool.specs.declared.question.Part.{Part}
+use Rattle.pe_tool.specs.declared.question.Fault.{Fault}
+use Rattle.pe_tool.specs.declared.question.CheckFault.TheVariants.{Refused}
+use Rattle.pe_tool.specs.Outcome.{IsPlain, IsOutcome}
+use Rattle.pe_tool.specs.Report.{report, report_status, refusal, read_fault, usage}
+
+-- the names of the five files
+pub record FileNames : Type 0 where
+  pub rtl : List ℕ
+  pub upf : List ℕ
+  pub lib : List ℕ
+  pub net : List ℕ
+  pub map : List ℕ
+
+-- a word of two or more bytes that begins with - is no name
+abbrev pub is_option : List ℕ → Bool
+is_option [] = false
+is_option (a ∷ []) = false
+is_option (a ∷ b ∷ bs) = a == 45
+
+-- The words are `check` and five names.
+abbrev pub names_of : List (List ℕ) → Option FileNames
+names_of (command ∷ rtl ∷ upf ∷ lib ∷ net ∷ map ∷ []) =
+    cond (bytes_eq command (codes "check") && list_all (λ name. not (is_option name)) (rtl ∷ upf ∷ lib ∷ net ∷ map ∷ []))
+    (Some (record { rtl = rtl; upf = upf; lib = lib; net = net; map = map })) None
+names_of _ = None
+
+-- the names of the files, in the order of their reading
+abbrev pub name_list : FileNames → List (List ℕ)
+name_list n = n.rtl ∷ n.upf ∷ n.lib ∷ n.net ∷ n.map ∷ []
+
+-- the files are told, and these are their texts
+pub record AreTold (told : List ℕ → Option (List ℕ)) (n : FileNames) (t : Texts) : Type 0 where
+  pub rtl : told n.rtl ≡ Some t.rtl
+  pub upf : told n.upf ≡ Some t.upf
+  pub lib : told n.lib ≡ Some t.lib
+  pub net : told n.net ≡ Some t.net
+  pub map : told n.map ≡ Some t.map
+
+-- what the program says
+pub data Saying : Type 0 where
+  reported : Plain → Saying
+  refused : Part → Fault → Saying
+  unread : List ℕ → Saying
+  misused : Saying
+
+-- the bytes of a saying, and its status
+abbrev pub bytes_of : Saying → List ℕ
+bytes_of (reported p) = report p
+bytes_of (refused part fault) = refusal part fault
+bytes_of (unread name) = read_fault name
+bytes_of misused = usage
+
+abbrev pub status_of : Saying → ℕ
+status_of (reported p) = report_status p
+status_of (refused part fault) = 3
+status_of (unread name) = 4
+status_of misused = 6
+
+-- the name is one of these
+abbrev pub IsOneOf : List (List ℕ) → List ℕ → Type 0
+IsOneOf [] name = ⊥
+IsOneOf (other ∷ names) name = (other ≡ name) ⊎ IsOneOf names name
+
+-- Why a saying is said, of the words, of what is told of the files, and of their counts of faults before and after.
+abbrev pub IsCause : List (List ℕ) → (List ℕ → Option (List ℕ)) → (List ℕ → ℕ) → (List ℕ → ℕ) → Saying → Type 0
+-- the words are of the rule, and where the files are told these are the questions and answers of their texts
+IsCause words told before after (reported p) = (n : FileNames) × (names_of words ≡ Some n) × ((t : Texts) → AreTold told n t → IsPlain t p)
+-- likewise, and the refusal is that of the texts
+IsCause words told before after (refused part fault) =
+    (n : FileNames) × (names_of words ≡ Some n) × ((t : Texts) → AreTold told n t → IsOutcome t (Err (Refused part fault)))
+-- likewise, and the count of one of the files rose
+IsCause words told before after (unread name) =
+    (n : FileNames) × (names_of words ≡ Some n) × IsOneOf (name_list n) name × HasRisen (before name) (after name)
+-- the words are not of the rule
+IsCause words told before after misused = names_of words ≡ None
+
+-- a saying that has its cause was written whole, and this is its status; or the output's count rose, and it was written in part
+pub record IsAnswered (saying : Saying) (status : ℕ) (before after : Option (List ℕ)) (faults_before faults_after : ℕ) : Type 0 where
+  pub whole_or_part :
+      ((status ≡ status_of saying) × (after ≡ grown before (bytes_of saying)))
+      ⊎ ((status ≡ 5) × HasRisen faults_before faults_after × GrowsByPrefix before after (bytes_of saying))
