@@ -26,3 +26,4 @@ pub mod FunctionSums
 pub mod CellZips
 pub mod CellViews
 pub mod Standing
+pub mod Sayings

@@ -19,3 +19,4 @@ pub mod Outcome
 pub mod Report
 pub mod Run
 pub mod Reads
+pub mod Said

@@ -1,5 +1,6 @@
 -- What the program answers to its words, over files and an output.
-use Rattle.std.specs.Prelude.{◌≡◌, ◌⊎◌, ℕ, ◌<◌, ◌≤◌, ◌==◌, Bool, true, false, cond, not, ◌&&◌, List, [], ◌∷◌, ◌++◌, length, codes, Option, Some, None, Result, Ok, Err}
+use Rattle.std.specs.Prelude.{◌≡◌, ◌⊎◌, ℕ, ◌<◌, ◌≤◌, ◌==◌, Bool, true, false, cond, not, ◌&&◌, List, [], ◌∷◌, ◌++◌, map, length, codes, string_bytes, String, Option, Some, None, Result, Ok, Err}
+use Rattle.std.specs.Global.{Global}
 use Rattle.std.specs.List.{list_all}
 use Rattle.std.specs.Str.{bytes_eq}
 use Rattle.pe_base.specs.declared.text.Texts.{Texts}
@@ -9,7 +10,7 @@ use Rattle.pe_tool.specs.declared.question.Part.{Part}
 use Rattle.pe_tool.specs.declared.question.Fault.{Fault}
 use Rattle.pe_tool.specs.declared.question.CheckFault.TheVariants.{Refused}
 use Rattle.pe_tool.specs.Outcome.{IsPlain, IsOutcome}
-use Rattle.pe_tool.specs.Report.{report, report_status, refusal, read_fault, usage}
+use Rattle.pe_tool.specs.Report.{mismatched, report, report_status, refusal, read_fault, usage}
 
 -- the names of the five files
 pub record FileNames : Type 0 where
@@ -87,3 +88,47 @@ pub record IsAnswered (saying : Saying) (status : ℕ) (before after : Option (L
   pub whole_or_part :
       ((status ≡ status_of saying) × (after ≡ grown before (bytes_of saying)))
       ⊎ ((status ≡ 5) × HasRisen faults_before faults_after × GrowsByPrefix before after (bytes_of saying))
+
+-- the program's words are of the rule, and where the files are told this holds of their texts
+abbrev pub OfTexts : List (List ℕ) → (List ℕ → Option (List ℕ)) → (Texts → Type 0) → Type 0
+OfTexts words told P = (n : FileNames) × (names_of words ≡ Some n) × ((t : Texts) → AreTold told n t → P t)
+
+-- a mismatch stands among the answers to the texts' questions
+abbrev pub HasMismatch : Texts → Type 0
+HasMismatch t = (p : Plain) × IsPlain t p × (0 < mismatched p)
+
+-- the counts of none of these rose
+abbrev pub NoneRose : (List ℕ → ℕ) → (List ℕ → ℕ) → List (List ℕ) → Type 0
+NoneRose before after [] = Unit {0}
+NoneRose before after (name ∷ names) = (HasRisen (before name) (after name) → ⊥) × NoneRose before after names
+
+-- what is said of the texts is right
+abbrev pub IsRight : Texts → Saying → Type 0
+IsRight t (reported p) = IsPlain t p
+IsRight t (refused part fault) = IsOutcome t (Err (Refused part fault))
+IsRight t (unread name) = ⊥
+IsRight t misused = ⊥
+
+-- the words, as their bytes
+abbrev pub words_of : List (String Global) → List (List ℕ)
+words_of words = map string_bytes words
+
+-- the texts are refused, and the line of that refusal was written
+abbrev pub IsRefusedRun : List (List ℕ) → (List ℕ → Option (List ℕ)) → Option (List ℕ) → Option (List ℕ) → Type 0
+IsRefusedRun words told before after =
+    (part : Part) × (fault : Fault) × OfTexts words told (λ t. IsOutcome t (Err (Refused part fault))) × (after ≡ grown before (refusal part fault))
+
+-- the count of one of the files rose, and the line that names it was written
+abbrev pub IsUnreadRun : List (List ℕ) → (List ℕ → ℕ) → (List ℕ → ℕ) → Option (List ℕ) → Option (List ℕ) → Type 0
+IsUnreadRun words faults_before faults_after before after =
+    (n : FileNames) × (name : List ℕ) × (names_of words ≡ Some n) × IsOneOf (name_list n) name × HasRisen (faults_before name) (faults_after name)
+    × (after ≡ grown before (read_fault name))
+
+-- what has its cause was said
+abbrev pub IsSaidRun : List (List ℕ) → (List ℕ → Option (List ℕ)) → (List ℕ → ℕ) → (List ℕ → ℕ) → ℕ → Option (List ℕ) → Option (List ℕ) → ℕ → ℕ → Type 0
+IsSaidRun words told faults_before faults_after status before after sink_before sink_after =
+    (saying : Saying) × IsCause words told faults_before faults_after saying × IsAnswered saying status before after sink_before sink_after
+
+-- what is right of the texts was said and written whole
+abbrev pub IsJudgedRun : Texts → ℕ → Option (List ℕ) → Option (List ℕ) → Type 0
+IsJudgedRun t status before after = (saying : Saying) × IsRight t saying × (status ≡ status_of saying) × (after ≡ grown before (bytes_of saying))

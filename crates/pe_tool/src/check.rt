@@ -266,3 +266,15 @@ fn told_count(count: usize) -> u32
         Err(_) => u32::MAX,
     }
 }
+
+/// No five texts give two designs.
+pub fn one_design()
+    ensures { (t : Texts) (d e : Design) → IsDesign t d → IsDesign t e → d ≡ e }
+{
+    one_rtl();
+    one_upf();
+    one_intent();
+    one_library();
+    one_net();
+    one_view();
+}

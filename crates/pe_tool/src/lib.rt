@@ -16,12 +16,16 @@ mod question;
 mod read;
 mod report;
 mod rtl_value;
+mod run;
 mod upf;
+mod words;
 
 pub use cell::{CellOutput, CellView};
+pub use check::{check_alone, one_design};
 pub use design::Design;
 pub use fault::FormFault;
 pub use function::{Literal, Product, Sum};
 pub use intent::{Level, PowerIntent, Row};
 pub use question::{CheckFault, Fault, Part, Plain, Point, Question};
+pub use run::run_alone;
 pub use upf::{Command, PortState};
