@@ -2,9 +2,14 @@
 #![tactic(auto)]
 
 mod name;
+mod name_set;
 mod text;
 mod value;
 
-pub use name::{Name, are_distinct, has_name, place_of};
+pub use name::{Name, has_name, place_of};
+pub use name_set::{NameSet, all_among, are_distinct};
 pub use text::{Span, Step, Texts, Want};
 pub use value::{Val, and, exact_law, known, merge, merge_law, not, or, pick, refines};
+
+#[cfg(test)]
+mod tests;

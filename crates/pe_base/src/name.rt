@@ -2,7 +2,7 @@
 
 ghost use Rattle.std.specs.Prelude.{◌≡◌, ◌↔◌, IsTrue, IfOk};
 ghost use Rattle.std.specs.Str.{bytes_eq};
-ghost use Rattle.pe_base.specs.Names.{has_name, are_distinct, place_of};
+ghost use Rattle.pe_base.specs.Names.{has_name, place_of};
 
 use crate::text::Want;
 use std::alloc::Global;
@@ -57,26 +57,14 @@ impl Name {
     }
 }
 
-/// Whether the name is one of these.
+/// Whether the name is one of these few. It is compared with each: among many names look it up in a `NameSet`.
 pub fn has_name(names: &[Name], name: &[u8]) -> bool
     ensures { result ≡ has_name names.now name.now }
 {
     names.iter().any(|other| other.is(name))
 }
 
-/// Whether no two of the names are the same.
-pub fn are_distinct(names: &[Name]) -> bool
-    ensures { result ≡ are_distinct names.now }
-{
-    for (i, name) in names.iter().enumerate() {
-        if has_name(&names[i + 1..], name.bytes()) {
-            return false;
-        }
-    }
-    true
-}
-
-/// The first place of the name, counted from 0, or how many names there are.
+/// The first place of the name among these few, counted from 0, or how many names there are.
 pub fn place_of(names: &[Name], name: &[u8]) -> usize
     ensures { result ≡ place_of names.now name.now }
 {

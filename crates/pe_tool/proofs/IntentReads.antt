@@ -4,7 +4,7 @@ use Rattle.std.specs.List.{list_all}
 use Rattle.std.specs.Str.{bytes_eq}
 use Rattle.std.proofs.lemmas.Bool.{eqb-true}
 use Rattle.std.proofs.lemmas.Slice.Eq.{bytes_eq-Decides}
-use Rattle.pe_base.specs.Names.{has_name, place_of}
+use Rattle.pe_base.specs.Names.{has_name, are_distinct, place_of}
 use Rattle.pe_tool.specs.declared.upf.Command.{Command}
 use Rattle.pe_tool.specs.declared.intent.Level.{Level}
 use Rattle.pe_tool.specs.declared.intent.Row.{Row}
@@ -114,18 +114,24 @@ places_found roots cs places h =
 
 -- ---- the table
 
-table_is : (roots : List (List ℕ)) (cs : List Command) (table : List ℕ × List (List ℕ)) → table_of roots cs ≡ Some table → (tables cs ≡ table ∷ []) × (list_all (has_name roots) table.1 ≡ true)
+-- the table and its supplies
+record IsTable (roots : List (List ℕ)) (cs : List Command) (table : List ℕ × List (List ℕ)) : Type 0 where
+  one : tables cs ≡ table ∷ []
+  there : list_all (has_name roots) table.1 ≡ true
+  apart : are_distinct table.1 ≡ true
+
+table_is : (roots : List (List ℕ)) (cs : List Command) (table : List ℕ × List (List ℕ)) → table_of roots cs ≡ Some table → IsTable roots cs table
 unfolding table_of
 table_is roots cs table e =
-    let a = bind_some (the_one (tables cs)) (λ t. cond (list_all (has_name roots) t.1) (Some t) None) table e in
-    let g = guard_some (list_all (has_name roots) a.0.1) a.0 table a.2 in
-    let one = the_one_is (tables cs) a.0 a.1 in
-    let P : List ℕ × List (List ℕ) → Type 0 = λ t. (tables cs ≡ t ∷ []) × (list_all (has_name roots) t.1 ≡ true) in
-    subst P g.1 (one, g.0)
+    let a = bind_some (the_one (tables cs)) (λ t. cond (list_all (has_name roots) t.1 && are_distinct t.1) (Some t) None) table e in
+    let g = guard_some (list_all (has_name roots) a.0.1 && are_distinct a.0.1) a.0 table a.2 in
+    let h = both_true (list_all (has_name roots) a.0.1) (are_distinct a.0.1) g.0 in
+    let t : IsTable roots cs a.0 = record { one = the_one_is (tables cs) a.0 a.1; there = h.0; apart = h.1 } in
+    subst (IsTable roots cs) g.1 t
 
-table_found : (roots : List (List ℕ)) (cs : List Command) (table : List ℕ × List (List ℕ)) → tables cs ≡ table ∷ [] → list_all (has_name roots) table.1 ≡ true → table_of roots cs ≡ Some table
+table_found : (roots : List (List ℕ)) (cs : List Command) (table : List ℕ × List (List ℕ)) → IsTable roots cs table → table_of roots cs ≡ Some table
 unfolding table_of
-table_found roots cs table e h = rw (e, h) refl
+table_found roots cs table t = rw (t.one, t.there, t.apart) refl
 
 -- ---- the row
 
@@ -179,8 +185,8 @@ roots_found : (cs : List Command) → length (supplies cs) ≡ 2 → roots_of cs
 unfolding roots_of
 roots_found cs e = rw e refl
 
-made_is : (cs : List Command) (top : List ℕ) (places : ℕ × ℕ) (table : List ℕ × List (List ℕ)) (row : Row) → length (supplies cs) ≡ 2 → tops cs ≡ top ∷ [] → IsPlaced (supplies cs) cs places → tables cs ≡ table ∷ [] → list_all (has_name (supplies cs)) table.1 ≡ true → IsRow cs table row → IsIntent cs (made (supplies cs) top places table row)
-made_is cs top places table row two one p t there r = record {
+made_is : (cs : List Command) (top : List ℕ) (places : ℕ × ℕ) (table : List ℕ × List (List ℕ)) (row : Row) → length (supplies cs) ≡ 2 → tops cs ≡ top ∷ [] → IsPlaced (supplies cs) cs places → IsTable (supplies cs) cs table → IsRow cs table row → IsIntent cs (made (supplies cs) top places table row)
+made_is cs top places table row two one p t r = record {
   one_top = one;
   domain = p.domain;
   one_domain = p.one_domain;
@@ -196,8 +202,9 @@ made_is cs top places table row two one p t there r = record {
   ground_place = p.ground_place;
   table = table.0;
   columns = table.1;
-  one_table = t;
-  columns_there = there;
+  one_table = t.one;
+  columns_there = t.there;
+  columns_apart = t.apart;
   table_places = refl;
   row = row;
   words = r.0;
@@ -212,8 +219,7 @@ of_roots_is cs i two e =
     let b = bind_some (places_of (supplies cs) cs) (of_places cs (supplies cs) a.0) i a.2 in
     let d = bind_some (table_of (supplies cs) cs) (of_table cs (supplies cs) a.0 b.0) i b.2 in
     let f = bind_some (row_of cs d.0) (of_row (supplies cs) a.0 b.0 d.0) i d.2 in
-    let t = table_is (supplies cs) cs d.0 d.1 in
-    let is = made_is cs a.0 b.0 d.0 f.0 two (the_one_is (tops cs) a.0 a.1) (places_are (supplies cs) cs b.0 b.1) t.0 t.1 (row_is cs d.0 f.0 f.1) in
+    let is = made_is cs a.0 b.0 d.0 f.0 two (the_one_is (tops cs) a.0 a.1) (places_are (supplies cs) cs b.0 b.1) (table_is (supplies cs) cs d.0 d.1) (row_is cs d.0 f.0 f.1) in
     subst (IsIntent cs) {x = made (supplies cs) a.0 b.0 d.0 f.0} (some_is _ i f.2) is
 
 intent_is : (cs : List Command) (i : PowerIntent) → intent_of cs ≡ Some i → IsIntent cs i
@@ -246,8 +252,9 @@ intent_found cs i h =
       power_place = h.power_place;
       ground_place = h.ground_place;
     } in
+    let t : IsTable (supplies cs) cs table = record { one = h.one_table; there = h.columns_there; apart = h.columns_apart } in
     let r : IsRow cs table h.row = (h.words, h.one_row, h.levels) in
-    rw (roots_found cs h.two_roots, h.one_top, places_found (supplies cs) cs places p, table_found (supplies cs) cs table h.one_table h.columns_there, row_found cs table h.row r)
+    rw (roots_found cs h.two_roots, h.one_top, places_found (supplies cs) cs places p, table_found (supplies cs) cs table t, row_found cs table h.row r)
     (ap some (is_made cs i places table h.row h.roots refl refl h.table_places h.rows))
 
 -- ---- the answer

@@ -1,4 +1,5 @@
 pub mod NameFacts
+pub mod NameLists
 pub mod RtlSettled
 pub mod Extensions
 pub mod NetSettled

@@ -1,24 +1,23 @@
 -- Where a netlist fits, exactly one map of it is settled.
-use Rattle.std.proofs.Common.{◌≡◌, ℕ, ◌+◌, ◌<◌, Bool, true, false, cond, not, ◌&&◌, List, [], ◌∷◌, ◌++◌, map, length, Option, Some, None, refl, sym, ap, ◌∙◌, arith, get_or}
-use Rattle.std.specs.Prelude.{slice_index_or, ◌==◌, find}
-use Rattle.std.specs.List.{list_all, flat_map}
+use Rattle.std.proofs.Common.{◌≡◌, ℕ, ◌+◌, ◌<◌, Bool, true, false, cond, not, ◌&&◌, List, [], ◌∷◌, ◌++◌, map, length, Option, Some, None, refl, sym, ap, ◌∙◌, arith}
+use Rattle.std.specs.Prelude.{◌==◌}
+use Rattle.std.specs.List.{list_all}
 use Rattle.std.specs.Str.{bytes_eq}
 use Rattle.std.proofs.lemmas.List.{ext_get_or, get_or-map, length-map}
 use Rattle.pe_base.specs.declared.value.Val.{Val}
 use Rattle.pe_base.specs.declared.value.Val.TheVariants.{Corrupt}
 use Rattle.pe_base.specs.Values.{known_of}
-use Rattle.pe_base.specs.Names.{has_name, place_of, are_distinct}
+use Rattle.pe_base.specs.Names.{has_name, place_of, all_among}
 use Rattle.pe_verilog_read.specs.Ports.{input_names, output_names, port_names}
-use Rattle.pe_verilog_read.specs.Rtl.{all_among}
 use Rattle.pe_verilog_read.specs.Net.{net_nets, net_wires, pins}
 use Rattle.pe_tool.specs.declared.cell.CellOutput.{CellOutput}
 use Rattle.pe_tool.specs.declared.design.Design.{Design}
 use Rattle.pe_tool.specs.Cell.{read_pins, all_pins}
-use Rattle.pe_tool.specs.RtlMeaning.{name_at, value_in, given_at}
-use Rattle.pe_tool.specs.NetMeaning.{net_on, Use, uses, supply_on, value_on, pin_value, pin_values, output_value, unless_down, Driver, given, output, undriven, output_on, output_or, cell_on, driver_of, driven, IsNetSettled, input_value, net_value, net_values}
+use Rattle.pe_tool.specs.RtlMeaning.{name_at, value_in}
+use Rattle.pe_tool.specs.NetMeaning.{net_on, Use, uses, supply_on, value_on, pin_value, pin_values, output_value, unless_down, given, output_on, output_or, cell_on, driver_of, driven, IsNetSettled, input_value, net_value, net_values}
 use Rattle.pe_tool.specs.Function.{sum_holds}
 use Rattle.pe_base.specs.Values.{exact_extension}
-use Rattle.pe_tool.specs.Fit.{is_among, all_on, is_joined, has_ports, drives_each_once, is_fit, driven_nets, to_drive}
+use Rattle.pe_tool.specs.Fit.{is_among, all_on, is_joined, has_ports, drives_each_once, is_fit}
 use Rattle.pe_tool.proofs.NameFacts.{and_left, and_right, all_named, place_below, name_at_place, value_in-map, has_left, input_is_port, output_is_port}
 use Rattle.std.proofs.lemmas.Slice.Eq.{bytes_eq-Decides}
 
@@ -119,7 +118,7 @@ pub net_settled : (d : Design) (roots bits : List Bool) → is_fit d ≡ true �
 net_settled d roots bits e =
     let computed = net_value d roots bits in
     let agree : Agree d (input_value d bits) (value_in (net_nets d.net) (net_values d roots bits)) = record {
-      at = λ a h. sym (value_in-map (net_value d roots bits) (net_nets d.net) a (input_is_net d e a h) ∙ input_driven d roots bits (input_value d bits) a h)
+      at = λ a h. sym (value_in-map (net_value d roots bits) (net_nets d.net) a (input_is_net d e a h) ∙ input_driven d roots bits (input_value d bits) a h);
     } in
     record {
       covers = length-map (net_nets d.net) (net_value d roots bits);

@@ -1,21 +1,20 @@
 -- With the form that is built, exactly one map of an RTL module is settled.
-use Rattle.std.proofs.Common.{◌≡◌, ℕ, ◌<◌, Bool, true, false, cond, ◌&&◌, List, [], ◌∷◌, map, length, refl, sym, ap, ◌∙◌, arith, get_or}
-use Rattle.std.specs.Prelude.{slice_index_or, ◌==◌}
+use Rattle.std.proofs.Common.{◌≡◌, ℕ, ◌<◌, Bool, true, false, cond, ◌&&◌, List, [], ◌∷◌, length, refl, sym, ap, ◌∙◌, arith}
+use Rattle.std.specs.Prelude.{◌==◌}
 use Rattle.std.specs.List.{list_all}
 use Rattle.std.specs.Str.{bytes_eq}
 use Rattle.std.proofs.lemmas.List.{ext_get_or, get_or-map, length-map}
 use Rattle.pe_base.specs.declared.value.Val.{Val}
 use Rattle.pe_base.specs.declared.value.Val.TheVariants.{Corrupt}
-use Rattle.pe_base.specs.Operators.{and_of}
-use Rattle.pe_base.specs.Names.{has_name, place_of, are_distinct}
+use Rattle.pe_base.specs.Names.{has_name, place_of, are_distinct, all_among}
 use Rattle.pe_verilog_read.specs.declared.rtl.Expr.{Expr}
 use Rattle.pe_verilog_read.specs.declared.rtl.Expr.TheVariants.{Net, And}
 use Rattle.pe_verilog_read.specs.declared.rtl.Assign.{Assign}
 use Rattle.pe_verilog_read.specs.declared.rtl.RtlModule.{RtlModule}
 use Rattle.pe_verilog_read.specs.Ports.{input_names, port_names}
-use Rattle.pe_verilog_read.specs.Rtl.{assigns, rtl_nets, rtl_wires, rtl_driven, targets, all_among, reads_inputs, operands, is_rtl_form}
-use Rattle.pe_tool.specs.RtlMeaning.{name_at, value_in, given_at, expr_value, Driver, given, assigned, undriven, assignment_to, driver_of, driven, IsRtlSettled, input_value, rtl_value, rtl_values}
-use Rattle.pe_tool.proofs.NameFacts.{and_left, and_right, all_named, place_below, name_at_place, value_in-map, has_left, input_is_port}
+use Rattle.pe_verilog_read.specs.Rtl.{assigns, rtl_nets, rtl_wires, rtl_driven, targets, reads_inputs, operands, is_rtl_form}
+use Rattle.pe_tool.specs.RtlMeaning.{name_at, value_in, expr_value, given, assigned, assignment_to, driver_of, driven, IsRtlSettled, input_value, rtl_value, rtl_values}
+use Rattle.pe_tool.proofs.NameFacts.{and_left, and_right, place_below, name_at_place, value_in-map, has_left, input_is_port}
 
 expr_agrees : (f g : List ℕ → Val) (inputs : List (List ℕ)) (e : Expr) → ((a : List ℕ) → has_name inputs a ≡ true → f a ≡ g a) → all_among inputs (operands e) ≡ true → expr_value f e ≡ expr_value g e
 expr_agrees f g inputs (Net a) h k = h a (and_left (has_name inputs a) true k)
@@ -52,8 +51,8 @@ input_driven m f on bits a h = rw h refl
 form_reads : (m : RtlModule) → is_rtl_form m ≡ true → list_all (reads_inputs (input_names m.ports)) (assigns m.items) ≡ true
 form_reads m e =
     let first =
-        (length (assigns m.items) == 1) && are_distinct (rtl_nets m) && are_distinct (targets (assigns m.items))
-        && all_among (targets (assigns m.items)) (rtl_driven m) && all_among (rtl_driven m) (targets (assigns m.items)) in
+    (length (assigns m.items) == 1) && are_distinct (rtl_nets m) && are_distinct (targets (assigns m.items))
+    && all_among (targets (assigns m.items)) (rtl_driven m) && all_among (rtl_driven m) (targets (assigns m.items)) in
     and_right first (list_all (reads_inputs (input_names m.ports)) (assigns m.items)) e
 
 pub rtl_settled : (m : RtlModule) (on : Bool) (bits : List Bool) → is_rtl_form m ≡ true → IsRtlSettled m on bits (rtl_values m on bits)

@@ -1,17 +1,11 @@
 -- When a netlist fits an RTL module, its supplies and the views of its cells, in the form that is built.
-use Rattle.std.specs.Prelude.{◌≡◌, ℕ, ◌+◌, ◌==◌, Bool, true, false, cond, ◌&&◌, List, [], ◌∷◌, ◌++◌, map, length, Option, Some, None, Result, Ok, Err}
-use Rattle.std.specs.List.{list_all, list_any, flat_map, AllZip}
+use Rattle.std.specs.Prelude.{◌≡◌, ℕ, ◌+◌, ◌==◌, Bool, false, ◌&&◌, List, [], ◌∷◌, ◌++◌, length, Option, Some, None, Result, Ok, Err}
+use Rattle.std.specs.List.{list_all, flat_map, AllZip}
 use Rattle.std.specs.Str.{bytes_eq}
-use Rattle.pe_base.specs.Names.{has_name, are_distinct}
-use Rattle.pe_verilog_read.specs.declared.rtl.Direction.{Direction}
-use Rattle.pe_verilog_read.specs.declared.rtl.Direction.TheVariants.{Input, Output}
-use Rattle.pe_verilog_read.specs.declared.rtl.Port.{Port}
-use Rattle.pe_verilog_read.specs.declared.rtl.RtlModule.{RtlModule}
+use Rattle.pe_base.specs.Names.{has_name, are_distinct, all_among}
 use Rattle.pe_verilog_read.specs.declared.net.Instance.{Instance}
-use Rattle.pe_verilog_read.specs.declared.net.NetModule.{NetModule}
-use Rattle.pe_verilog_read.specs.Ports.{input_names, output_names, port_names}
-use Rattle.pe_verilog_read.specs.Rtl.{all_among}
-use Rattle.pe_verilog_read.specs.Net.{instances, net_wires, pins}
+use Rattle.pe_verilog_read.specs.Ports.{input_names, output_names}
+use Rattle.pe_verilog_read.specs.Net.{net_wires, pins}
 use Rattle.pe_liberty_read.specs.declared.library.Library.{Library}
 use Rattle.pe_tool.specs.declared.cell.CellView.{CellView}
 use Rattle.pe_tool.specs.declared.design.Design.{Design}

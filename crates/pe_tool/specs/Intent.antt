@@ -1,9 +1,10 @@
 -- What the commands of a UPF text mean. A net and a port of one name are one supply, and no switch drives any: each
--- supply is a root. The form that is built has one domain, which holds the top, two supplies, one table and one row.
+-- supply is a root. The form that is built has one domain, which holds the top, two supplies, one table, which names
+-- each supply once at most, and one row.
 use Rattle.std.specs.Prelude.{◌≡◌, ℕ, Bool, true, false, cond, ◌&&◌, List, [], ◌∷◌, ◌++◌, map, length, codes, Option, Some, None, Result, Ok, Err}
 use Rattle.std.specs.List.{list_all}
 use Rattle.std.specs.Str.{bytes_eq}
-use Rattle.pe_base.specs.Names.{has_name, place_of}
+use Rattle.pe_base.specs.Names.{has_name, are_distinct, place_of}
 use Rattle.pe_tool.specs.declared.upf.PortState.{PortState}
 use Rattle.pe_tool.specs.declared.upf.Command.{Command}
 use Rattle.pe_tool.specs.declared.upf.Command.TheVariants.{SetDesignTop, CreatePowerDomain, CreateSupplyPort, CreateSupplyNet, ConnectSupplyNet, SetDomainSupplyNet, AddPortState, CreatePst, AddPstState}
@@ -118,6 +119,7 @@ pub record IsIntent (cs : List Command) (i : PowerIntent) : Type 0 where
   pub columns : List (List ℕ)
   pub one_table : tables cs ≡ (table, columns) ∷ []
   pub columns_there : list_all (has_name (supplies cs)) columns ≡ true
+  pub columns_apart : are_distinct columns ≡ true
   pub table_places : i.table ≡ map (place_of (supplies cs)) columns
   pub row : Row
   pub words : List (List ℕ)

@@ -3,7 +3,7 @@
 use Rattle.std.specs.Prelude.{◌≡◌, ◌==◌, ◌&&◌, ℕ, Bool, List, [], ◌∷◌, map, length, Option, Some, None, Result, Ok, Err, if◌then◌else◌}
 use Rattle.std.specs.List.{list_all}
 use Rattle.std.specs.Str.{bytes_eq}
-use Rattle.pe_base.specs.Names.{has_name, place_of}
+use Rattle.pe_base.specs.Names.{has_name, are_distinct, place_of}
 use Rattle.pe_tool.specs.declared.fault.FormFault.{FormFault}
 use Rattle.pe_tool.specs.declared.fault.FormFault.TheVariants.{Memory, NotBuilt}
 use Rattle.pe_tool.specs.declared.upf.Command.{Command}
@@ -62,11 +62,11 @@ places_of roots cs = do
   primary ← the_one (primaries cs)
   if list_all (is_sound roots domain) cs && is_primary roots domain primary then Some (place_of roots primary.1, place_of roots primary.2) else None
 
--- the table's name and its supplies, all of which are there
+-- the table's name and its supplies, all of which are there, each once
 unfoldable pub table_of : List (List ℕ) → List Command → Option (List ℕ × List (List ℕ))
 table_of roots cs = do
   table ← the_one (tables cs)
-  if list_all (has_name roots) table.1 then Some table else None
+  if list_all (has_name roots) table.1 && are_distinct table.1 then Some table else None
 
 -- the row of the table
 unfoldable pub row_of : List Command → List ℕ × List (List ℕ) → Option Row

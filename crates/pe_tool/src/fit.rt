@@ -3,7 +3,7 @@
 ghost use Rattle.std.specs.Prelude.{◌≡◌, ◌++◌, ◌∷◌, [], ◌==◌, ◌+◌, IfOk, MatchResult, List, length};
 ghost use Rattle.std.specs.List.{flat_map, list_all};
 ghost use Rattle.pe_verilog_read.specs.Ports.{input_names, output_names};
-ghost use Rattle.pe_verilog_read.specs.Rtl.{all_among};
+ghost use Rattle.pe_base.specs.Names.{HasSameNames};
 ghost use Rattle.pe_verilog_read.specs.Net.{instances, net_wires, pins};
 ghost use Rattle.pe_tool.specs.declared.cell.CellView.{CellView};
 ghost use Rattle.pe_tool.specs.Cell.{read_pins, all_pins};
@@ -14,7 +14,7 @@ use crate::cell::{CellView, cell_view};
 use crate::design::Design;
 use crate::fault::FormFault;
 use crate::net_value::{net_on, read_pins};
-use pe_base::{Name, Want, are_distinct, has_name};
+use pe_base::{Name, NameSet, Want, all_among, are_distinct};
 use pe_liberty_read::Library;
 use pe_verilog_read::{Direction, Instance, NetItem, Port};
 use sqlite_items::Items;
@@ -62,35 +62,32 @@ fn wires(alloc: Global, items: &[NetItem]) -> Result<Items<Name>, Want>
     Ok(names)
 }
 
-// Whether each of some names is one of these.
-fn all_among(names: &[Name], some: &[Name]) -> bool
-    ensures { result ≡ all_among names.now some.now }
-{
-    some.iter().all(|name| has_name(names, name.bytes()))
-}
-
 // Whether the net on a pin is there and one of these.
-fn is_among(nets: &[Name], instance: &Instance, pin: &[u8]) -> bool
+fn is_among(nets: &NameSet<'_>, instance: &Instance, pin: &[u8]) -> bool
     ensures { result ≡ is_among nets.now (net_on instance.now.connections pin.now) }
 {
     match net_on(instance.connections.as_slice(), pin) {
-        Some(net) => has_name(nets, net.bytes()),
+        Some(net) => nets.contains(net.bytes()),
         None => false,
     }
 }
 
 // Whether the inputs of a cell are on some of these nets.
-fn inputs_on(nets: &[Name], instance: &Instance, view: &CellView) -> bool
+fn inputs_on(nets: &NameSet<'_>, instance: &Instance, view: &CellView) -> bool
     ensures { result ≡ all_on (make_use instance.now view.now) nets.now view.now.inputs }
 {
-    view.inputs.as_slice().iter().all(|pin| is_among(nets, instance, pin.bytes()))
+    view.inputs
+        .as_slice()
+        .iter()
+        .all(|pin| is_among(nets, instance, pin.bytes()))
 }
 
 // Whether the power pin and the ground pin of a cell are on some of these nets.
-fn supplies_on(nets: &[Name], instance: &Instance, view: &CellView) -> bool
+fn supplies_on(nets: &NameSet<'_>, instance: &Instance, view: &CellView) -> bool
     ensures { result ≡ all_on (make_use instance.now view.now) nets.now (view.now.power_pin ∷ view.now.ground_pin ∷ []) }
 {
-    is_among(nets, instance, view.power_pin.bytes()) && is_among(nets, instance, view.ground_pin.bytes())
+    is_among(nets, instance, view.power_pin.bytes())
+        && is_among(nets, instance, view.ground_pin.bytes())
 }
 
 // The pins that an instance names.
@@ -131,37 +128,47 @@ fn driven_nets(alloc: Global, instance: &Instance, view: &CellView) -> Result<It
 
 // Whether an instance's connections are to pins that its cell has, its inputs are on the RTL's inputs, and its power pin
 // and ground pin are on roots' ports.
+#[tactic(auto, using(crate::proofs::NameLists::on_same))]
 fn is_joined(
     alloc: Global,
     d: &Design,
-    inputs: &[Name],
+    inputs: &NameSet<'_>,
+    roots: &NameSet<'_>,
     instance: &Instance,
     view: &CellView,
 ) -> Result<bool, Want>
-    requires { inputs.now ≡ input_names d.now.rtl.ports }
+    requires inputs { HasSameNames inputs.now (input_names d.now.rtl.ports) }
+    requires roots { HasSameNames roots.now d.now.intent.roots }
     ensures { IfOk result (λ b. b ≡ is_joined d.now (make_use instance.now view.now)) }
 {
     let pins = all_pins(alloc, view)?;
     let named = named_pins(alloc, instance)?;
-    let holds = all_among(pins.as_slice(), named.as_slice())
-        && inputs_on(inputs, instance, view)
-        && supplies_on(d.intent.roots.as_slice(), instance, view);
-    Ok(holds)
+    if !all_among(alloc, pins.as_slice(), named.as_slice())? {
+        return Ok(false);
+    }
+    Ok(inputs_on(inputs, instance, view) && supplies_on(roots, instance, view))
 }
 
 // Whether the netlist's ports are the RTL's, in the same direction, and an input for each root.
+#[tactic(auto, using(crate::proofs::NameLists::among_same))]
 fn has_ports(alloc: Global, d: &Design, inputs: &[Name]) -> Result<bool, Want>
     requires { inputs.now ≡ input_names d.now.rtl.ports }
     ensures { IfOk result (λ b. b ≡ has_ports d.now) }
 {
-    let outputs = output_names(alloc, d.rtl.ports.as_slice())?;
+    if !is_sum(d.net.ports.len(), d.rtl.ports.len(), d.intent.roots.len()) {
+        return Ok(false);
+    }
     let net_inputs = input_names(alloc, d.net.ports.as_slice())?;
+    let declared = NameSet::of(alloc, net_inputs.as_slice())?;
+    if !declared.has_all(inputs) {
+        return Ok(false);
+    }
+    if !declared.has_all(d.intent.roots.as_slice()) {
+        return Ok(false);
+    }
+    let outputs = output_names(alloc, d.rtl.ports.as_slice())?;
     let net_outputs = output_names(alloc, d.net.ports.as_slice())?;
-    let holds = all_among(net_inputs.as_slice(), inputs)
-        && all_among(net_outputs.as_slice(), outputs.as_slice())
-        && all_among(net_inputs.as_slice(), d.intent.roots.as_slice())
-        && is_sum(d.net.ports.len(), d.rtl.ports.len(), d.intent.roots.len());
-    Ok(holds)
+    all_among(alloc, net_outputs.as_slice(), outputs.as_slice())
 }
 
 // Whether a count is the sum of two, which may be more than any count.
@@ -175,8 +182,14 @@ fn is_sum(count: usize, a: usize, b: usize) -> bool
 }
 
 // Whether each cell is joined.
-fn all_joined(alloc: Global, d: &Design, inputs: &[Name]) -> Result<bool, Want>
-    requires { inputs.now ≡ input_names d.now.rtl.ports }
+fn all_joined(
+    alloc: Global,
+    d: &Design,
+    inputs: &NameSet<'_>,
+    roots: &NameSet<'_>,
+) -> Result<bool, Want>
+    requires inputs { HasSameNames inputs.now (input_names d.now.rtl.ports) }
+    requires roots { HasSameNames roots.now d.now.intent.roots }
     ensures { IfOk result (λ b. b ≡ list_all (is_joined d.now) (uses d.now)) }
 {
     let mut views = d.views.as_slice();
@@ -186,7 +199,7 @@ fn all_joined(alloc: Global, d: &Design, inputs: &[Name]) -> Result<bool, Want>
             NetItem::Instance(instance) => match views.split_first() {
                 None => return Ok(true),
                 Some((view, rest)) => {
-                    if !is_joined(alloc, d, inputs, instance, view)? {
+                    if !is_joined(alloc, d, inputs, roots, instance, view)? {
                         return Ok(false);
                     }
                     views = rest;
@@ -233,10 +246,13 @@ fn drives_each_once(alloc: Global, d: &Design) -> Result<bool, Want>
 {
     let driven = all_driven(alloc, d)?;
     let wanted = to_drive(alloc, d)?;
-    let holds = are_distinct(driven.as_slice())
-        && all_among(wanted.as_slice(), driven.as_slice())
-        && all_among(driven.as_slice(), wanted.as_slice());
-    Ok(holds)
+    if !are_distinct(alloc, driven.as_slice())? {
+        return Ok(false);
+    }
+    if !all_among(alloc, driven.as_slice(), wanted.as_slice())? {
+        return Ok(false);
+    }
+    all_among(alloc, wanted.as_slice(), driven.as_slice())
 }
 
 /// Whether the netlist fits the rest of the design.
@@ -250,7 +266,9 @@ pub(crate) fn is_fit(alloc: Global, d: &Design) -> Result<bool, Want>
     if !has_ports(alloc, d, inputs.as_slice())? {
         return Ok(false);
     }
-    if !all_joined(alloc, d, inputs.as_slice())? {
+    let input_set = NameSet::of(alloc, inputs.as_slice())?;
+    let roots = NameSet::of(alloc, d.intent.roots.as_slice())?;
+    if !all_joined(alloc, d, &input_set, &roots)? {
         return Ok(false);
     }
     let once = drives_each_once(alloc, d)?;

@@ -8,7 +8,7 @@ mod lexer;
 mod reader;
 
 use self::lexer::tokens;
-use self::reader::{different, read_tokens, sum_pins};
+use self::reader::{are_few, read_tokens, sum_pins};
 use crate::fault::FormFault;
 use pe_base::Name;
 use sqlite_items::Items;
@@ -44,7 +44,8 @@ pub fn read_sum(alloc: Global, text: &[u8]) -> Result<Sum, FormFault>
     let tokens = tokens(alloc, text)?;
     let sum = read_tokens(alloc, tokens.as_slice())?;
     let pins = sum_pins(alloc, &sum)?;
-    if different(pins.as_slice()) <= PINS {
+    let few = are_few(alloc, pins.as_slice(), PINS)?;
+    if few {
         Ok(sum)
     } else {
         Err(FormFault::NotBuilt)

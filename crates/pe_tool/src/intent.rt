@@ -17,7 +17,7 @@ use levels::levels;
 use parts::{
     Primary, Table, are_sound, one_domain, one_primary, one_row, one_table, one_top, two_roots,
 };
-use pe_base::{Name, has_name, place_of};
+use pe_base::{Name, are_distinct, has_name, place_of};
 use sqlite_items::Items;
 use std::alloc::{AllocError, Global};
 
@@ -98,13 +98,20 @@ fn all_places(alloc: Global, roots: &[Name], names: &[Name]) -> Result<Items<usi
     Ok(Items::from_vec(places))
 }
 
-/// The table, whose supplies are all there.
+/// The table, whose supplies are all there, each once.
 #[tactic(auto, unfolding(crate::specs::IntentReading::table_of))]
-fn only_table<'a>(roots: &[Name], commands: &'a [Command]) -> Result<Table<'a>, FormFault>
+fn only_table<'a>(
+    alloc: Global,
+    roots: &[Name],
+    commands: &'a [Command],
+) -> Result<Table<'a>, FormFault>
     ensures { Finds table_seen result (table_of roots.now commands.now) }
 {
     let table = one_table(commands)?;
     if !are_there(roots, table.columns) {
+        return Err(FormFault::NotBuilt);
+    }
+    if !are_distinct(alloc, table.columns)? {
         return Err(FormFault::NotBuilt);
     }
     Ok(table)
@@ -134,7 +141,7 @@ fn found_intent(alloc: Global, commands: &[Command]) -> Result<PowerIntent, Form
     let roots = two_roots(alloc, commands)?;
     let top = one_top(commands)?;
     let (primary_power, primary_ground) = primary_places(roots.as_slice(), commands)?;
-    let table = only_table(roots.as_slice(), commands)?;
+    let table = only_table(alloc, roots.as_slice(), commands)?;
     let row = only_row(alloc, commands, &table)?;
     let places = all_places(alloc, roots.as_slice(), table.columns)?;
     let mut rows = Items::new(alloc);
@@ -200,10 +207,10 @@ mod tests {
         })
     }
 
-    fn table(alloc: Global, table: &str) -> Result<Command, FormFault> {
+    fn table(alloc: Global, table: &str, supplies: &[&str]) -> Result<Command, FormFault> {
         Ok(Command::CreatePst {
             name: name(alloc, table)?,
-            supplies: names(alloc, &["VDD", "VSS"])?,
+            supplies: names(alloc, supplies)?,
         })
     }
 
@@ -229,8 +236,12 @@ mod tests {
         })
     }
 
-    /// The commands of a design of one gate, with these words in the row.
-    fn commands(alloc: Global, words: &[&str]) -> Result<Items<Command>, FormFault> {
+    /// The commands of a design of one gate, with these supplies in the table and these words in the row.
+    fn commands_of(
+        alloc: Global,
+        columns: &[&str],
+        words: &[&str],
+    ) -> Result<Items<Command>, FormFault> {
         let mut commands = Items::new(alloc);
         commands.push(Command::SetDesignTop {
             top: name(alloc, "top")?,
@@ -251,13 +262,18 @@ mod tests {
         })?;
         commands.push(states(alloc, "VDD", ["HV", "1.0"], ["OFF", "off"])?)?;
         commands.push(states(alloc, "VSS", ["GND", "0.0"], ["GND", "off"])?)?;
-        commands.push(table(alloc, "T")?)?;
+        commands.push(table(alloc, "T", columns)?)?;
         commands.push(Command::AddPstState {
             name: name(alloc, "ON")?,
             table: name(alloc, "T")?,
             states: names(alloc, words)?,
         })?;
         Ok(commands)
+    }
+
+    /// The same, with both supplies in the table.
+    fn commands(alloc: Global, words: &[&str]) -> Result<Items<Command>, FormFault> {
+        commands_of(alloc, &["VDD", "VSS"], words)
     }
 
     #[test]
@@ -294,8 +310,9 @@ mod tests {
         let mut supplies = commands(alloc, &["HV", "GND"])?;
         supplies.push(port(alloc, "VREF")?)?;
         let mut tables = commands(alloc, &["HV", "GND"])?;
-        tables.push(table(alloc, "U")?)?;
-        for commands in [&unknown, &short, &supplies, &tables] {
+        tables.push(table(alloc, "U", &["VDD", "VSS"])?)?;
+        let twice = commands_of(alloc, &["VDD", "VDD"], &["HV", "HV"])?;
+        for commands in [&unknown, &short, &supplies, &tables, &twice] {
             assert_eq!(rt;
                 power_intent(alloc, commands.as_slice()).err(),
                 Some(FormFault::NotBuilt)

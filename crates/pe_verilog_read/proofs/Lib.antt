@@ -6,5 +6,6 @@ pub mod NetTakes
 pub mod Again
 pub mod RtlAgain
 pub mod NetAgain
+pub mod NetNames
 pub mod RtlTexts
 pub mod NetTexts

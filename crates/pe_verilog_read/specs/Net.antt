@@ -2,7 +2,7 @@
 use Rattle.std.specs.Prelude.{◌≡◌, ℕ, ◌≤◌, ◌==◌, Bool, true, ◌&&◌, List, [], ◌∷◌, ◌++◌, map, length, codes, Result, Ok, Err}
 use Rattle.std.specs.List.{list_all, flat_map}
 use Rattle.pe_base.specs.Walk.{IsCut}
-use Rattle.pe_base.specs.Names.{are_distinct}
+use Rattle.pe_base.specs.Names.{are_distinct, all_among}
 use Rattle.pe_verilog_read.specs.declared.net.Connection.{Connection}
 use Rattle.pe_verilog_read.specs.declared.net.Instance.{Instance}
 use Rattle.pe_verilog_read.specs.declared.net.NetItem.{NetItem}
@@ -12,7 +12,6 @@ use Rattle.pe_verilog_read.specs.declared.fault.ReadFault.{ReadFault}
 use Rattle.pe_verilog_read.specs.declared.fault.ReadFault.TheVariants.{Memory, NotBuilt}
 use Rattle.pe_verilog_read.specs.Tokens.{verilog_start, is_name}
 use Rattle.pe_verilog_read.specs.Ports.{head_tokens, port_names, with_commas}
-use Rattle.pe_verilog_read.specs.Rtl.{all_among}
 
 -- .PIN(NET)
 abbrev pub connection_tokens : Connection → List (List ℕ)

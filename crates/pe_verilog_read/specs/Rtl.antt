@@ -2,7 +2,7 @@
 use Rattle.std.specs.Prelude.{◌≡◌, ℕ, ◌≤◌, ◌==◌, Bool, true, ◌&&◌, List, [], ◌∷◌, ◌++◌, map, length, codes, Result, Ok, Err}
 use Rattle.std.specs.List.{list_all, flat_map}
 use Rattle.pe_base.specs.Walk.{IsCut}
-use Rattle.pe_base.specs.Names.{has_name, are_distinct}
+use Rattle.pe_base.specs.Names.{are_distinct, all_among}
 use Rattle.pe_verilog_read.specs.declared.rtl.Expr.{Expr}
 use Rattle.pe_verilog_read.specs.declared.rtl.Expr.TheVariants.{Net, And}
 use Rattle.pe_verilog_read.specs.declared.rtl.Assign.{Assign}
@@ -62,10 +62,6 @@ rtl_nets m = port_names m.ports ++ rtl_wires m.items
 -- the nets that an assignment has to drive
 abbrev pub rtl_driven : RtlModule → List (List ℕ)
 rtl_driven m = output_names m.ports ++ rtl_wires m.items
-
--- each is one of these
-abbrev pub all_among : List (List ℕ) → List (List ℕ) → Bool
-all_among names some = list_all (has_name names) some
 
 -- an assignment reads inputs alone
 abbrev pub reads_inputs : List (List ℕ) → Assign → Bool

@@ -2,12 +2,12 @@
 
 ghost use Rattle.std.specs.Prelude.{◌≡◌, IfOk, length};
 ghost use Rattle.std.specs.List.{list_all};
-ghost use Rattle.pe_verilog_read.specs.Rtl.{all_among};
+ghost use Rattle.pe_base.specs.Names.{all_among};
 ghost use Rattle.pe_verilog_read.specs.Net.{net_wires, instances, net_nets, pins, connected_nets, is_connected, is_net_form};
 
 use crate::net::{Connection, Instance, NetItem, NetModule};
 use crate::rtl_form::port_names;
-use pe_base::{Name, Want, are_distinct, has_name};
+use pe_base::{Name, NameSet, Want, are_distinct};
 use sqlite_items::Items;
 use std::alloc::Global;
 
@@ -57,11 +57,11 @@ fn pins(alloc: Global, connections: &[Connection]) -> Result<Items<Name>, Want>
 }
 
 /// Whether each connection is to one of the nets.
-fn all_declared(nets: &[Name], connections: &[Connection]) -> bool
+fn all_declared(nets: &NameSet<'_>, connections: &[Connection]) -> bool
     ensures { result ≡ all_among nets.now (connected_nets connections.now) }
 {
     for connection in connections {
-        if !has_name(nets, connection.net.bytes()) {
+        if !nets.contains(connection.net.bytes()) {
             return false;
         }
     }
@@ -69,15 +69,18 @@ fn all_declared(nets: &[Name], connections: &[Connection]) -> bool
 }
 
 /// Whether the instance names each pin once at most, and nets that are declared.
-fn is_connected(alloc: Global, nets: &[Name], instance: &Instance) -> Result<bool, Want>
+fn is_connected(alloc: Global, nets: &NameSet<'_>, instance: &Instance) -> Result<bool, Want>
     ensures { IfOk result (λ b. b ≡ is_connected nets.now instance.now) }
 {
     let pins = pins(alloc, instance.connections.as_slice())?;
-    Ok(are_distinct(pins.as_slice()) && all_declared(nets, instance.connections.as_slice()))
+    if !all_declared(nets, instance.connections.as_slice()) {
+        return Ok(false);
+    }
+    are_distinct(alloc, pins.as_slice())
 }
 
 /// Whether each instance is connected so.
-fn are_connected(alloc: Global, nets: &[Name], items: &[NetItem]) -> Result<bool, Want>
+fn are_connected(alloc: Global, nets: &NameSet<'_>, items: &[NetItem]) -> Result<bool, Want>
     ensures { IfOk result (λ b. b ≡ list_all (is_connected nets.now) (instances items.now)) }
 {
     for item in items {
@@ -91,6 +94,7 @@ fn are_connected(alloc: Global, nets: &[Name], items: &[NetItem]) -> Result<bool
 }
 
 /// Whether the module is of the form that is built.
+#[tactic(auto, using(crate::proofs::NetNames::connected_same))]
 pub fn is_net_form(alloc: Global, design: &NetModule) -> Result<bool, Want>
     ensures { IfOk result (λ b. b ≡ is_net_form design.now) }
 {
@@ -98,8 +102,9 @@ pub fn is_net_form(alloc: Global, design: &NetModule) -> Result<bool, Want>
         return Ok(false);
     }
     let nets = nets(alloc, design)?;
-    if !are_distinct(nets.as_slice()) {
+    if !are_distinct(alloc, nets.as_slice())? {
         return Ok(false);
     }
-    are_connected(alloc, nets.as_slice(), design.items.as_slice())
+    let declared = NameSet::of(alloc, nets.as_slice())?;
+    are_connected(alloc, &declared, design.items.as_slice())
 }

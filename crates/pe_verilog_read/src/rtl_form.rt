@@ -2,12 +2,12 @@
 
 ghost use Rattle.std.specs.Prelude.{◌≡◌, ◌&&◌, IfOk};
 ghost use Rattle.std.specs.List.{list_all};
-ghost use Rattle.pe_base.specs.Names.{are_distinct};
+ghost use Rattle.pe_base.specs.Names.{are_distinct, all_among};
 ghost use Rattle.pe_verilog_read.specs.Ports.{port_names, input_names, output_names};
-ghost use Rattle.pe_verilog_read.specs.Rtl.{rtl_wires, assigns, targets, operands, all_among, reads_inputs, rtl_nets, rtl_driven, is_rtl_form};
+ghost use Rattle.pe_verilog_read.specs.Rtl.{rtl_wires, assigns, targets, operands, reads_inputs, rtl_nets, rtl_driven, is_rtl_form};
 
 use crate::rtl::{Direction, Expr, Port, RtlItem, RtlModule};
-use pe_base::{Name, Want, are_distinct, has_name};
+use pe_base::{Name, Want, all_among, are_distinct, has_name};
 use sqlite_items::Items;
 use std::alloc::Global;
 
@@ -20,13 +20,6 @@ pub fn port_names(alloc: Global, ports: &[Port]) -> Result<Items<Name>, Want>
         names.push(port.name.copy(alloc)?)?;
     }
     Ok(names)
-}
-
-/// Whether each of `some` is one of the names.
-pub fn all_among(names: &[Name], some: &[Name]) -> bool
-    ensures { result ≡ all_among names.now some.now }
-{
-    some.iter().all(|name| has_name(names, name.bytes()))
 }
 
 fn input_names(alloc: Global, ports: &[Port]) -> Result<Items<Name>, Want>
@@ -89,7 +82,8 @@ fn reads_inputs(inputs: &[Name], value: &Expr) -> bool
     }
 }
 
-/// Whether each assignment reads inputs alone.
+/// Whether each assignment reads inputs alone. The form that is built has one, so the inputs are gone through twice at
+/// most.
 fn all_read_inputs(inputs: &[Name], items: &[RtlItem]) -> bool
     ensures { result ≡ list_all (reads_inputs inputs.now) (assigns items.now) }
 {
@@ -129,22 +123,37 @@ pub fn is_rtl_form(alloc: Global, design: &RtlModule) -> Result<bool, Want>
     if targets.len() != 1 {
         return Ok(false);
     }
+    let inputs = input_names(alloc, design.ports.as_slice())?;
+    if !all_read_inputs(inputs.as_slice(), design.items.as_slice()) {
+        return Ok(false);
+    }
     let nets = nets(alloc, design)?;
     let driven = driven(alloc, design)?;
-    let inputs = input_names(alloc, design.ports.as_slice())?;
-    Ok(
-        is_driven_once(nets.as_slice(), driven.as_slice(), targets.as_slice())
-            && all_read_inputs(inputs.as_slice(), design.items.as_slice()),
+    is_driven_once(
+        alloc,
+        nets.as_slice(),
+        driven.as_slice(),
+        targets.as_slice(),
     )
 }
 
-/// Whether no net and no target is there twice, and the targets are the nets that have to be driven. The names that are
-/// compared each with each come last.
-fn is_driven_once(nets: &[Name], driven: &[Name], targets: &[Name]) -> bool
-    ensures { result ≡ (are_distinct nets.now && are_distinct targets.now && all_among targets.now driven.now && all_among driven.now targets.now) }
+/// Whether no net and no target is there twice, and the targets are the nets that have to be driven.
+fn is_driven_once(
+    alloc: Global,
+    nets: &[Name],
+    driven: &[Name],
+    targets: &[Name],
+) -> Result<bool, Want>
+    ensures { IfOk result (λ b. b ≡ (are_distinct nets.now && are_distinct targets.now && all_among targets.now driven.now && all_among driven.now targets.now)) }
 {
-    all_among(targets, driven)
-        && all_among(driven, targets)
-        && are_distinct(targets)
-        && are_distinct(nets)
+    if !all_among(alloc, targets, driven)? {
+        return Ok(false);
+    }
+    if !all_among(alloc, driven, targets)? {
+        return Ok(false);
+    }
+    if !are_distinct(alloc, targets)? {
+        return Ok(false);
+    }
+    are_distinct(alloc, nets)
 }

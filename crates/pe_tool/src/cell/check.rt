@@ -10,7 +10,7 @@ ghost use Rattle.pe_tool.specs.CellReading.{are_apart, is_complete};
 use super::group::{are_plain, is_plain};
 use super::{CellOutput, CellView};
 use crate::function::{Product, Sum};
-use pe_base::{Name, Want, are_distinct, has_name};
+use pe_base::{Name, NameSet, Want, are_distinct};
 use pe_liberty_read::{Group, Statement};
 use sqlite_items::Items;
 use std::alloc::Global;
@@ -46,46 +46,51 @@ fn all_pins(alloc: Global, view: &CellView) -> Result<Items<Name>, Want>
     Ok(pins)
 }
 
-fn product_reads(order: &[Name], product: &Product) -> bool
+fn product_reads(order: &NameSet<'_>, product: &Product) -> bool
     ensures { result ≡ list_all (λ l. has_name order.now l.pin) product.now.literals }
 {
     let literals = product.literals.as_slice();
     literals
         .iter()
-        .all(|literal| has_name(order, literal.pin.bytes()))
+        .all(|literal| order.contains(literal.pin.bytes()))
 }
 
-fn products_read(order: &[Name], products: &[Product]) -> bool
+fn products_read(order: &NameSet<'_>, products: &[Product]) -> bool
     ensures { result ≡ list_all (λ p. list_all (λ l. has_name order.now l.pin) p.literals) products.now }
 {
     products.iter().all(|product| product_reads(order, product))
 }
 
-fn sum_reads(order: &[Name], sum: &Sum) -> bool
+fn sum_reads(order: &NameSet<'_>, sum: &Sum) -> bool
     ensures { result ≡ list_all (has_name order.now) (sum_pins sum.now) }
 {
     products_read(order, sum.products.as_slice())
 }
 
-fn output_reads(order: &[Name], output: &CellOutput) -> bool
+fn output_reads(order: &NameSet<'_>, output: &CellOutput) -> bool
     ensures { result ≡ reads_pins_of order.now output.now }
 {
     sum_reads(order, &output.function) && sum_reads(order, &output.power_down)
 }
 
-fn outputs_read(order: &[Name], outputs: &[CellOutput]) -> bool
+fn outputs_read(order: &NameSet<'_>, outputs: &[CellOutput]) -> bool
     ensures { result ≡ list_all (reads_pins_of order.now) outputs.now }
 {
     outputs.iter().all(|output| output_reads(order, output))
 }
 
 /// Whether no two pins have one name, and each function reads inputs, the power pin and the ground pin alone.
+#[tactic(auto, using(crate::proofs::NameLists::reads_same))]
 fn are_apart(alloc: Global, view: &CellView) -> Result<bool, Want>
     ensures { IfOk result (λ b. b ≡ are_apart view.now) }
 {
-    let order = read_pins(alloc, view)?;
     let all = all_pins(alloc, view)?;
-    Ok(are_distinct(all.as_slice()) && outputs_read(order.as_slice(), view.outputs.as_slice()))
+    if !are_distinct(alloc, all.as_slice())? {
+        return Ok(false);
+    }
+    let pins = read_pins(alloc, view)?;
+    let order = NameSet::of(alloc, pins.as_slice())?;
+    Ok(outputs_read(&order, view.outputs.as_slice()))
 }
 
 /// Whether the whole is the sum of both, which may be more than a number holds.

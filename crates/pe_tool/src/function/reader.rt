@@ -1,6 +1,6 @@
 //! Sums of products, read from tokens.
 
-ghost use Rattle.std.specs.Prelude.{◌≡◌, ◌++◌, List, ℕ, Option, Some, None, true, codes, IfOk, OnOk, MatchResult};
+ghost use Rattle.std.specs.Prelude.{◌≡◌, ◌↔◌, ◌≤◌, ◌++◌, IsTrue, List, ℕ, Option, Some, None, true, codes, IfOk, OnOk, MatchResult};
 ghost use Rattle.std.specs.Option.{option_copied};
 ghost use Rattle.pe_tool.specs.declared.function.Product.{Product};
 ghost use Rattle.pe_tool.specs.declared.function.Sum.{Sum};
@@ -11,7 +11,7 @@ ghost use Rattle.pe_tool.specs.FunctionReading.{after_operator, literal_at, is_g
 use super::lexer::is_pin;
 use super::{Literal, Product, Sum};
 use crate::fault::FormFault;
-use pe_base::{Name, Want, has_name};
+use pe_base::{Name, NameSet, Want};
 use sqlite_items::Items;
 use std::alloc::Global;
 
@@ -102,15 +102,19 @@ pub fn sum_pins(alloc: Global, sum: &Sum) -> Result<Items<Name>, Want>
     Ok(pins)
 }
 
-/// How many different names there are.
-pub fn different(names: &[Name]) -> usize
-    ensures { result ≡ different names.now }
+/// Whether at most so many of the names are different. It stops at the first that is one too many.
+pub fn are_few(alloc: Global, names: &[Name], most: usize) -> Result<bool, Want>
+    ensures { IfOk result (λ few. IsTrue few ↔ (different names.now ≤ most)) }
 {
+    let mut behind = NameSet::new(alloc);
     let mut count = 0;
-    for (i, name) in names.iter().enumerate() {
-        if !has_name(&names[i + 1..], name.bytes()) {
+    for i in (0..names.len()).rev() {
+        if behind.insert(names[i].bytes())? {
+            if count == most {
+                return Ok(false);
+            }
             count += 1;
         }
     }
-    count
+    Ok(true)
 }

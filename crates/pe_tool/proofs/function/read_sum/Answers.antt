@@ -1,4 +1,4 @@
-use Rattle.std.proofs.Common.{◌≡◌, ℕ, ◌≤◌, List, Err, arith, refl, sym, ap, ◌∙◌, subst}
+use Rattle.std.proofs.Common.{◌≡◌, ℕ, ◌≤◌, List, Err, refl, sym, ap, ◌∙◌, subst}
 use Rattle.std.proofs.lemmas.Result.{err_from_is_err_and}
 use Rattle.pe_base.specs.Walk.{IsCut}
 use Rattle.pe_tool.specs.declared.function.Sum.{Sum}
@@ -28,24 +28,24 @@ returns-in_err-sum-clause-only c s h =
     let same : c.as_slice.result.now ≡ sum_tokens s = c.as_slice.ensures ∙ c.in_ok-tokens.ensures.only (sum_tokens s) h.spelled in
     rw (x.1, x.2) (sum_fault c.in_err-sum.field-0.0 s (λ e. c.in_err-sum.ensures.only (cc) s (good_of _ s h) same))
 
-pub returns-then-different-le-PINS-clause-found : goal.returns-then-different-le-PINS-clause-found
-returns-then-different-le-PINS-clause-found c =
+pub returns-then-few-clause-found : goal.returns-then-few-clause-found
+returns-then-few-clause-found c =
     let s = c.in_ok-sum.sum in
     let g = c.in_ok-sum.ensures.good in
     let same : c.in_ok-tokens.tokens ≡ sum_tokens s = sym c.as_slice.ensures ∙ c.in_ok-sum.ensures.found in
-    let count : c.different.result ≡ different (sum_pins s) = c.different.ensures ∙ ap different (c.as_slice-2.ensures ∙ c.in_ok-pins.ensures) in
+    let pins : c.as_slice-2.result.now ≡ sum_pins s = c.as_slice-2.ensures ∙ c.in_ok-pins.ensures in
     let P : List (List ℕ) → Type 0 = λ ts. IsCut function_start c.args.text.now ts in
-    let Q : ℕ → Type 0 = λ n. n ≤ 10 in
+    let Q : List (List ℕ) → Type 0 = λ names. different names ≤ 10 in
     record {
       spelled = subst P same c.in_ok-tokens.ensures.found;
       pins = pins_from s g;
       summed = filled_from s g;
       multiplied = multiplied_from s g;
-      few = subst Q count c.if-different-le-PINS.true;
+      few = subst Q pins (c.in_ok-few.ensures.0 c.if-few.true);
     }
 
-pub returns-then-different-le-PINS-clause-only : goal.returns-then-different-le-PINS-clause-only
-returns-then-different-le-PINS-clause-only c s h =
+pub returns-then-few-clause-only : goal.returns-then-few-clause-only
+returns-then-few-clause-only c s h =
     let same : sum_tokens c.in_ok-sum.sum ≡ sum_tokens s = sym c.in_ok-sum.ensures.found ∙ c.as_slice.ensures ∙ c.in_ok-tokens.ensures.only (sum_tokens s) h.spelled in
     sum_same c.in_ok-sum.sum s c.in_ok-sum.ensures.good (good_of _ s h) same
 
@@ -53,7 +53,6 @@ pub returns-clause-only : goal.returns-clause-only
 returns-clause-only c s h =
     let same : sum_tokens c.in_ok-sum.sum ≡ sum_tokens s = sym c.in_ok-sum.ensures.found ∙ c.as_slice.ensures ∙ c.in_ok-tokens.ensures.only (sum_tokens s) h.spelled in
     let equal = sum_same c.in_ok-sum.sum s c.in_ok-sum.ensures.good (good_of _ s h) same in
-    let count : c.different.result ≡ different (sum_pins s) = c.different.ensures ∙ ap different (c.as_slice-2.ensures ∙ c.in_ok-pins.ensures ∙ ap sum_pins equal) in
-    let few = h.few in
-    let many = c.if-different-le-PINS.false in
-    omega arith
+    let pins : c.as_slice-2.result.now ≡ sum_pins s = c.as_slice-2.ensures ∙ c.in_ok-pins.ensures ∙ ap sum_pins equal in
+    let Q : List (List ℕ) → Type 0 = λ names. different names ≤ 10 in
+    absurd (let few = c.in_ok-few.ensures.1 (subst Q (sym pins) h.few) in let many = c.if-few.false in cc)

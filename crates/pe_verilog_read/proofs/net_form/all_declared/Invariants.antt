@@ -1,5 +1,5 @@
 use Rattle.std.proofs.Common.{◌≡◌, drop}
-use Rattle.pe_verilog_read.specs.Rtl.{all_among}
+use Rattle.pe_base.specs.Names.{all_among}
 use Rattle.pe_verilog_read.specs.Net.{connected_nets}
 use Rattle.pe_verilog_read.proofs.net_form.all_declared.Given as goal
 
