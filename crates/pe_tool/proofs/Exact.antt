@@ -178,8 +178,18 @@ same_plain laws t d p x narrow q a (Err (Refused Lib (TooWide n))) o = absurd o
 same_plain laws t d p x narrow q a (Err (Refused Net (TooWide n))) o = absurd o
 same_plain laws t d p x narrow q a (Err (Refused Map (TooWide n))) o = absurd o
 
--- a right refusal is the one answer
-pub same_fault : (t : Texts) (fault : CheckFault) → IsRefused t fault → (other : Result Plain CheckFault) → IsOutcome t other → IsSame other (Err fault)
-same_fault t Memory h other o = same_memory other
-same_fault t (Refused part NotBuilt) h other o = same_refused t part h other o
-same_fault t (Refused part (TooWide count)) h other o = absurd h
+-- a right answer of no questions is the one answer
+pub exact_fault : Laws → (t : Texts) (fault : CheckFault) → IsOutcome t (Err fault) → (other : Result Plain CheckFault) → IsOutcome t other → IsSame other (Err fault)
+exact_fault laws t Memory h other o = same_memory other
+exact_fault laws t (Refused part NotBuilt) h other o = same_refused t part h other o
+exact_fault laws t (Refused Rtl (TooWide count)) (d, x, wide, told) other o = same_too_wide laws t d count x wide told other o
+exact_fault laws t (Refused Upf (TooWide count)) h other o = absurd h
+exact_fault laws t (Refused Lib (TooWide count)) h other o = absurd h
+exact_fault laws t (Refused Net (TooWide count)) h other o = absurd h
+exact_fault laws t (Refused Map (TooWide count)) h other o = absurd h
+
+-- a refusal of a text that is not built is a right answer
+pub refused_outcome : (t : Texts) (fault : CheckFault) → IsRefused t fault → IsOutcome t (Err fault)
+refused_outcome t Memory h = tt
+refused_outcome t (Refused part NotBuilt) h = h
+refused_outcome t (Refused part (TooWide count)) h = absurd h

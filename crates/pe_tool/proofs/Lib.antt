@@ -26,5 +26,6 @@ pub mod FunctionSums
 pub mod CellZips
 pub mod CellViews
 pub mod Standing
+pub mod Mismatches
 pub mod Sayings
 pub mod Reports

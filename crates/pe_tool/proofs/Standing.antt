@@ -24,7 +24,7 @@ use Rattle.pe_tool.specs.UpfTokens.{upf_start, next_command, end_token}
 use Rattle.pe_tool.specs.Upf.{IsUpf, ended}
 use Rattle.pe_tool.specs.Map.{IsMap, map_start}
 use Rattle.pe_tool.specs.Equivalent.{IsPower, IsNetlist, IsDesign}
-use Rattle.pe_tool.specs.Outcome.{IsBuilt, IsNotBuilt, IsTooWide, IsPlain, IsOutcome}
+use Rattle.pe_tool.specs.Outcome.{IsBuilt, IsNotBuilt, IsTooWide, IsPlain, IsReported, IsOutcome}
 use Rattle.pe_tool.specs.Reads.{StandsFor, StandFor, unspelled}
 
 -- a text at whose start nothing starts is not cut
@@ -110,3 +110,7 @@ same_outcome s t (Err (Refused Upf (TooWide count))) h o = absurd o
 same_outcome s t (Err (Refused Lib (TooWide count))) h o = absurd o
 same_outcome s t (Err (Refused Net (TooWide count))) h o = absurd o
 same_outcome s t (Err (Refused Map (TooWide count))) h o = absurd o
+
+-- likewise with the design
+pub same_reported : (s t : Texts) (d : Design) (p : Plain) → StandFor s t → IsReported s d p → IsReported t d p
+same_reported s t d p h (x, narrow, q, a) = (same_design s t d (alike_files s t h) x, narrow, q, a)

@@ -224,6 +224,7 @@ fn plain_of(alloc: Global, d: &Design) -> Result<Plain, Want>
 }
 
 // The design of a check, and its questions and answers.
+#[derive(Drop)]
 pub(crate) struct Checked {
     pub design: Design,
     pub plain: Plain,
@@ -268,10 +269,7 @@ pub fn check_alone(alloc: Global, texts: &Texts) -> Result<Plain, CheckFault>
     one_net();
     one_view();
     match check_design(alloc, texts) {
-        Ok(Checked { design, plain }) => {
-            let _ = design;
-            Ok(plain)
-        }
+        Ok(checked) => Ok(checked.plain),
         Err(fault) => Err(fault),
     }
 }

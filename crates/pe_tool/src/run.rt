@@ -3,12 +3,14 @@
 ghost use Rattle.std.specs.Prelude.{◌≡◌, ◌≢◌, ◌⊎◌, ◌<◌, ◌≤◌, ℕ, List, map, IfOk, Option, Some, None, Result, Err, string_bytes};
 ghost use Rattle.pe_base.specs.declared.text.Texts.{Texts};
 ghost use Rattle.pe_outside.specs.Outside.{HasRisen, grown, GrowsByPrefix};
-ghost use Rattle.pe_tool.specs.Equivalent.{IsEquivalent};
+ghost use Rattle.pe_tool.specs.declared.design.Design.{Design};
+ghost use Rattle.pe_tool.specs.Equivalent.{IsDesign, Refined, IsEquivalent};
+ghost use Rattle.pe_tool.specs.Outcome.{input_count};
 ghost use Rattle.pe_tool.specs.Report.{usage};
 ghost use Rattle.pe_tool.specs.Run.{FileNames, AreTold, NoneRose, OfTexts, HasMismatch, IsRefusedRun, IsUnreadRun, IsSaidRun, IsJudgedRun, words_of, names_of, name_list};
 ghost use Rattle.pe_tool.specs.Said.{Says, IsJudged, IsSaid};
 
-use crate::check::{Checked, check_design, one_design};
+use crate::check::{check_design, one_design};
 use crate::question::CheckFault;
 use crate::read::{ReadStop, read_texts};
 use crate::report::{read_fault, refusal, report, report_status, usage};
@@ -30,9 +32,9 @@ fn judge(alloc: Global, texts: &Texts) -> Result<Said, Want>
     ensures { IfOk result (IsJudged texts.now) }
 {
     match check_design(alloc, texts) {
-        Ok(Checked { design, plain }) => {
-            let bytes = report(alloc, &design, &plain)?;
-            let status = report_status(&plain);
+        Ok(checked) => {
+            let bytes = report(alloc, &checked.design, &checked.plain)?;
+            let status = report_status(&checked.plain);
             Ok(Said { status, bytes })
         }
         Err(CheckFault::Refused(part, fault)) => {
@@ -71,7 +73,7 @@ fn say<F: Files>(alloc: Global, words: &[String], files: &mut F) -> Result<Said,
 /// | Status | Comes only where | Written |
 /// |---|---|---|
 /// | 0 | the texts give a design whose netlist is equivalent to its RTL | the report |
-/// | 1 | a question of the texts has an assignment that refutes | the report |
+/// | 1 | the texts give a design, and in a row an assignment refutes an output | the report, with a block for each mismatch |
 /// | 3 | the texts are refused | the line of the first refusal |
 /// | 4 | the count of faults of one of the files rose in this call | the line that names it |
 /// | 5 | the output's count of faults rose in this call | a part of what another status would write |
@@ -99,6 +101,10 @@ pub fn run_alone<F: Files, S: Sink>(
     ensures judged { (n : FileNames) (t : Texts) → names_of (words_of words.now) ≡ Some n → AreTold (F.told files.old) n t →
         NoneRose (F.faults files.old) (F.faults files.new) (name_list n) → (HasRisen (S.faults out.old) (S.faults out.new) → ⊥) →
         (result ≡ 7) ⊎ IsJudgedRun t result (S.written out.old) (S.written out.new) }
+    // And where they give a design that is not too wide, its netlist is equivalent at 0, and a mismatch replays at 1.
+    ensures complete { (n : FileNames) (t : Texts) (d : Design) → names_of (words_of words.now) ≡ Some n → AreTold (F.told files.old) n t →
+        NoneRose (F.faults files.old) (F.faults files.new) (name_list n) → (HasRisen (S.faults out.old) (S.faults out.new) → ⊥) →
+        IsDesign t d → input_count d ≤ 8 → (result ≡ 7) ⊎ ((result ≡ 0) × Refined d) ⊎ ((result ≡ 1) × HasMismatch t) }
 {
     one_design();
     match say(alloc, words, files) {

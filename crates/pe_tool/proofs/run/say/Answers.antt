@@ -10,11 +10,11 @@ returns-in-Ok g c =
     judged_said (map string_bytes c.args.words.now) (g.F.Files.told c.args.files.now) (g.F.Files.faults c.args.files.now) (g.F.Files.faults c.read_texts.new.files) (names_view c.in-Some.names) c.in-Ok.texts c.judge.result
     (sym c.in-Some.ensures) c.in-Ok.ensures.texts c.judge.ensures
 
-pub returns-in_ok-text-in-Err-Failed : goal.returns-in_ok-text-in-Err-Failed
-returns-in_ok-text-in-Err-Failed g c =
+pub returns-in_ok-bytes-in-Err-Failed : goal.returns-in_ok-bytes-in-Err-Failed
+returns-in_ok-bytes-in-Err-Failed g c =
     let stopped = rw c.in-Err-Failed.field-0-is at c.in-Err-Failed.ensures.stopped in
     record {
       saying = unread c.in-Err-Failed.name.now;
       cause = (names_view c.in-Some.names, sym c.in-Some.ensures, stopped.0, stopped.1);
-      says = record { status = refl; text = c.in_ok-text-in-Err-Failed.ensures };
+      says = record { status = refl; bytes = c.in_ok-bytes-in-Err-Failed.ensures };
     }
