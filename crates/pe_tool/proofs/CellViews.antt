@@ -1,11 +1,12 @@
 -- A library gives a name one view at most.
-use Rattle.std.proofs.Common.{◌≡◌, ℕ, Bool, true, false, ◌&&◌, ◌==◌, ◌+◌, length, List, [], ◌∷◌, map, codes, Some, Result, Ok, Err, IfOk, refl, sym, ap, ◌∙◌, subst}
+use Rattle.std.proofs.Common.{◌≡◌, ℕ, Bool, true, false, ◌&&◌, ◌==◌, ◌+◌, ◌≤◌, length, List, [], ◌∷◌, map, codes, Some, Result, Ok, Err, IfOk, refl, sym, ap, ◌∙◌, subst}
 use Rattle.std.specs.Borrow.{Bor}
 use Rattle.std.specs.List.{list_all, list_any}
 use Rattle.std.specs.Option.{option_map}
 use Rattle.std.specs.Str.{bytes_eq}
 use Rattle.std.proofs.lemmas.Slice.Eq.{bytes_eq-Decides}
-use Rattle.std.proofs.lemmas.Bool.{eqb-true, eq-eqb}
+use Rattle.std.specs.Prelude.{leb}
+use Rattle.std.proofs.lemmas.Bool.{eqb-true, eq-eqb, le-leb, leb-true}
 use Rattle.std.proofs.lemmas.List.{length-map}
 use Rattle.std.proofs.lemmas.List.Folds.{list_all-map}
 use Rattle.pe_base.specs.Names.{has_name, are_distinct}
@@ -115,14 +116,15 @@ cell_found l name g (Err f) e h = tt
 -- ---- the parts of a view
 
 pub sound_is : (ss ps : List code.Group) (body : List Statement) → map view ss ≡ groups (codes "pg_pin") body → map view ps ≡ groups (codes "pin") body
-    → ((length ss == 2) && is_plain body && list_all (λ g. is_plain g.body.now) ps) ≡ is_sound body
+    → ((length ss == 2) && leb (length ps) 64 && is_plain body && list_all (λ g. is_plain g.body.now) ps) ≡ is_sound body
 sound_is ss ps body e f =
     let a : length ss ≡ length (groups (codes "pg_pin") body) = sym (length-map ss view) ∙ ap length e in
     let b : list_all (λ g. is_plain g.body.now) ps ≡ list_all (λ g. is_plain g.body) (groups (codes "pin") body) = sym (list_all-map (λ g. is_plain g.body) view ps) ∙ ap (list_all (λ g. is_plain g.body)) f in
-    rw (a, b) refl
+    let c : length ps ≡ length (groups (codes "pin") body) = sym (length-map ps view) ∙ ap length f in
+    rw (a, b, c) refl
 
 pub view_sound : (body : List Statement) (v : CellView) → IsView body v → is_sound body ≡ true
-view_sound body v h = and_both _ _ (and_both _ _ (eq-eqb _ _ h.two_supply_pins) h.plain) h.plain_pins
+view_sound body v h = and_both _ _ (and_both _ _ (and_both _ _ (eq-eqb _ _ h.two_supply_pins) (le-leb _ _ h.few_pins)) h.plain) h.plain_pins
 
 pub view_complete : (body : List Statement) (v : CellView) → IsView body v → is_complete (length (groups (codes "pin") body)) v ≡ true
 view_complete body v h = and_both _ _ (and_both _ _ h.apart h.reads) (eq-eqb _ _ h.no_others)
@@ -131,17 +133,20 @@ pub view_from : (body : List Statement) (v : CellView) → is_sound body ≡ tru
 view_from body v s h k =
     let number = length (groups (codes "pg_pin") body) == 2 in
     let pins = list_all (λ g. is_plain g.body) (groups (codes "pin") body) in
-    let both = and_first (number && is_plain body) pins s in
+    let few = leb (length (groups (codes "pin") body)) 64 in
+    let both = and_first (number && few && is_plain body) pins s in
+    let counts = and_first (number && few) (is_plain body) both in
     let whole = length (groups (codes "pin") body) == length v.inputs + length v.outputs in
     let apart = and_first (are_apart v) whole k in
     let distinct = are_distinct (all_pins v) in
     let reads = list_all (reads_pins (read_pins v)) v.outputs in
     record {
-      plain = and_second number (is_plain body) both;
-      two_supply_pins = eqb-true _ _ (and_first number (is_plain body) both);
+      plain = and_second (number && few) (is_plain body) both;
+      two_supply_pins = eqb-true _ _ (and_first number few counts);
       powered = h.powered;
       grounded = h.grounded;
-      plain_pins = and_second (number && is_plain body) pins s;
+      plain_pins = and_second (number && few && is_plain body) pins s;
+      few_pins = leb-true _ _ (and_second number few counts);
       inputs = h.inputs;
       outputs = h.outputs;
       no_others = eqb-true _ _ (and_second (are_apart v) whole k);

@@ -1,6 +1,6 @@
 -- A cell of the library (Liberty: cell, pg_pin, pin). The form that is built has one primary power pin, one primary ground
 -- pin, inputs, and outputs with a function and a power_down_function over these.
-use Rattle.std.specs.Prelude.{◌≡◌, ℕ, ◌+◌, Bool, true, false, cond, not, ◌&&◌, List, [], ◌∷◌, ◌++◌, map, length, codes, Result, Ok, Err, Option, Some, None}
+use Rattle.std.specs.Prelude.{◌≡◌, ℕ, ◌+◌, ◌≤◌, Bool, true, false, cond, not, ◌&&◌, List, [], ◌∷◌, ◌++◌, map, length, codes, Result, Ok, Err, Option, Some, None}
 use Rattle.std.specs.List.{list_all, list_any, AllZip, filter}
 use Rattle.std.specs.Str.{bytes_eq}
 use Rattle.pe_base.specs.Names.{has_name, are_distinct}
@@ -90,6 +90,7 @@ pub record IsView (body : List Statement) (v : CellView) : Type 0 where
   pub powered : AllZip HasName (saying (codes "pg_type") (codes "primary_power") (groups (codes "pg_pin") body)) (v.power_pin ∷ [])
   pub grounded : AllZip HasName (saying (codes "pg_type") (codes "primary_ground") (groups (codes "pg_pin") body)) (v.ground_pin ∷ [])
   pub plain_pins : list_all (λ g. is_plain g.body) (groups (codes "pin") body) ≡ true
+  pub few_pins : length (groups (codes "pin") body) ≤ 64
   pub inputs : AllZip HasName (saying (codes "direction") (codes "input") (groups (codes "pin") body)) v.inputs
   pub outputs : AllZip IsOutput (saying (codes "direction") (codes "output") (groups (codes "pin") body)) v.outputs
   pub no_others : length (groups (codes "pin") body) ≡ length v.inputs + length v.outputs

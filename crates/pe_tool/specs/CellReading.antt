@@ -1,5 +1,5 @@
 -- How a cell is read from the groups of a library.
-use Rattle.std.specs.Prelude.{◌≡◌, ℕ, ◌+◌, ◌==◌, Bool, ◌&&◌, List, length, [], ◌∷◌, codes, Some, Result, Ok, Err}
+use Rattle.std.specs.Prelude.{◌≡◌, ℕ, ◌+◌, ◌==◌, leb, Bool, ◌&&◌, List, length, [], ◌∷◌, codes, Some, Result, Ok, Err}
 use Rattle.std.specs.List.{list_all, AllZip}
 use Rattle.pe_base.specs.Names.{are_distinct}
 use Rattle.pe_liberty_read.specs.declared.library.Statement.{Statement}
@@ -36,7 +36,8 @@ are_apart v = are_distinct (all_pins v) && list_all (reads_pins (read_pins v)) v
 abbrev pub is_complete : ℕ → CellView → Bool
 is_complete pins v = are_apart v && (pins == length v.inputs + length v.outputs)
 
--- there are two supply pins, and no excluded word stands directly in the body or in its pins
+-- there are two supply pins and no more than 64 others, and no excluded word stands directly in the body or in its pins
 abbrev pub is_sound : List Statement → Bool
 is_sound body =
-    (length (groups (codes "pg_pin") body) == 2) && is_plain body && list_all (λ g. is_plain g.body) (groups (codes "pin") body)
+    (length (groups (codes "pg_pin") body) == 2) && leb (length (groups (codes "pin") body)) 64 && is_plain body
+    && list_all (λ g. is_plain g.body) (groups (codes "pin") body)

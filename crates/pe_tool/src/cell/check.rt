@@ -1,6 +1,6 @@
 //! Whether the pins of a cell are apart, and its functions read no others.
 
-ghost use Rattle.std.specs.Prelude.{◌≡◌, ◌+◌, ◌==◌, ◌&&◌, length, IfOk};
+ghost use Rattle.std.specs.Prelude.{◌≡◌, ◌+◌, ◌==◌, ◌&&◌, leb, length, IfOk};
 ghost use Rattle.std.specs.List.{list_all};
 ghost use Rattle.pe_base.specs.Names.{has_name, are_distinct};
 ghost use Rattle.pe_tool.specs.Function.{sum_pins};
@@ -14,6 +14,9 @@ use pe_base::{Name, NameSet, Want, are_distinct};
 use pe_liberty_read::{Group, Statement};
 use sqlite_items::Items;
 use std::alloc::Global;
+
+// The most signal pins that a cell of the form has: the values of a function go through them one by one.
+const MOST_PINS: usize = 64;
 
 fn copy_names(alloc: Global, names: &[Name]) -> Result<Items<Name>, Want>
     ensures { IfOk result (λ copies. copies ≡ names.now) }
@@ -111,7 +114,7 @@ pub fn is_complete(alloc: Global, pins: usize, view: &CellView) -> Result<bool, 
 
 /// Whether the groups of a cell's body may be those of a cell of the form that is built.
 pub fn is_sound(body: &[Statement], supplies: &[Group<'_>], pins: &[Group<'_>]) -> bool
-    ensures { result ≡ ((length supplies.now == 2) && is_plain body.now && list_all (λ g. is_plain g.body.now) pins.now) }
+    ensures { result ≡ ((length supplies.now == 2) && leb (length pins.now) 64 && is_plain body.now && list_all (λ g. is_plain g.body.now) pins.now) }
 {
-    supplies.len() == 2 && is_plain(body) && are_plain(pins)
+    supplies.len() == 2 && pins.len() <= MOST_PINS && is_plain(body) && are_plain(pins)
 }
