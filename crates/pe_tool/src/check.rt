@@ -18,10 +18,10 @@ ghost use Rattle.pe_tool.specs.Outcome.{IsBuilt, IsOutcome, IsSame, IsRefused, I
 ghost use Rattle.pe_tool.specs.Questions.{questions, answers, width};
 
 use crate::answer::answers;
+use crate::cell::one_view;
 use crate::design::Design;
 use crate::fault::FormFault;
 use crate::fit::{is_fit, views};
-use crate::cell::one_view;
 use crate::intent::{PowerIntent, one_intent, power_intent};
 use crate::map::is_map;
 use crate::ports::input_count;
@@ -62,7 +62,11 @@ fn is_no_port(ports: &[Port], name: &[u8]) -> bool
 fn are_apart(rtl: &RtlModule, intent: &PowerIntent) -> bool
     ensures { result ≡ are_apart rtl.now intent.now }
 {
-    intent.roots.as_slice().iter().all(|root| is_no_port(rtl.ports.as_slice(), root.bytes()))
+    intent
+        .roots
+        .as_slice()
+        .iter()
+        .all(|root| is_no_port(rtl.ports.as_slice(), root.bytes()))
 }
 
 // The power intent that a UPF text gives an RTL module.

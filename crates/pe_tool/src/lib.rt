@@ -9,9 +9,9 @@ mod fault;
 mod fit;
 mod function;
 mod intent;
+mod map;
 mod net_value;
 mod ports;
-mod map;
 mod question;
 mod read;
 mod report;
@@ -29,3 +29,6 @@ pub use intent::{Level, PowerIntent, Row};
 pub use question::{CheckFault, Fault, Part, Plain, Point, Question};
 pub use run::run_alone;
 pub use upf::{Command, PortState};
+
+#[cfg(test)]
+mod tests;

@@ -29,8 +29,7 @@ pub fn net_settled_law()
         IsNetSettled d roots inputs (net_values d roots inputs) }
     ensures only { (d : Design) (roots inputs : List Bool) (values : List Val) → is_fit d ≡ true →
         IsNetSettled d roots inputs values → values ≡ net_values d roots inputs }
-{
-}
+{}
 
 // The net on a pin, if the pin is connected.
 pub(crate) fn net_on<'a>(connections: &'a [Connection], pin: &[u8]) -> Option<&'a Name>
@@ -150,16 +149,22 @@ fn literal_holds(order: &[Name], bits: &[bool], literal: &Literal) -> bool
 fn product_holds(order: &[Name], bits: &[bool], product: &Product) -> bool
     ensures { result ≡ product_holds order.now bits.now product.now }
 {
-    product.literals.as_slice().iter().all(|literal| literal_holds(order, bits, literal))
+    product
+        .literals
+        .as_slice()
+        .iter()
+        .all(|literal| literal_holds(order, bits, literal))
 }
 
 // Whether a function is 1.
 fn sum_holds(order: &[Name], sum: &Sum, bits: &[bool]) -> bool
     ensures { result ≡ sum_holds order.now sum.now bits.now }
 {
-    sum.products.as_slice().iter().any(|product| product_holds(order, bits, product))
+    sum.products
+        .as_slice()
+        .iter()
+        .any(|product| product_holds(order, bits, product))
 }
-
 
 // The bits with one more behind them.
 pub(crate) fn extended(alloc: Global, bits: &[bool], bit: bool) -> Result<Items<bool>, Want>
@@ -252,8 +257,20 @@ fn output_value(
 {
     let order = read_pins(alloc, view)?;
     let values = pin_values(alloc, d, roots, inputs, instance, view)?;
-    let down = extension(alloc, order.as_slice(), &output.power_down, &[], values.as_slice())?;
-    let value = extension(alloc, order.as_slice(), &output.function, &[], values.as_slice())?;
+    let down = extension(
+        alloc,
+        order.as_slice(),
+        &output.power_down,
+        &[],
+        values.as_slice(),
+    )?;
+    let value = extension(
+        alloc,
+        order.as_slice(),
+        &output.function,
+        &[],
+        values.as_slice(),
+    )?;
     Ok(unless_down(down, value))
 }
 

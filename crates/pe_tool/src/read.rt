@@ -30,7 +30,11 @@ pub(crate) enum ReadStop<'a> {
 
 // The text of a file. A file over its limit does not end the reading: a text that no language has stands for it, so that
 // it is refused at its own point.
-fn read_text<'a, F: Files>(alloc: Global, files: &mut F, name: &'a str) -> Result<Items<u8>, ReadStop<'a>>
+fn read_text<'a, F: Files>(
+    alloc: Global,
+    files: &mut F,
+    name: &'a str,
+) -> Result<Items<u8>, ReadStop<'a>>
     ensures told { (other : List ℕ) → F.told files.new other ≡ F.told files.old other }
     ensures counted { (other : List ℕ) → F.faults files.old other ≤ F.faults files.new other }
     ensures text { IfOk result (λ text. IfSome (F.told files.old name.now) (StandsFor text)) }

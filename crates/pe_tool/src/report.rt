@@ -18,7 +18,12 @@ fn mismatched(plain: &Plain) -> usize
     ensures count { result ≡ mismatched plain.now }
     ensures bounded { result ≤ length plain.now.answers }
 {
-    plain.answers.as_slice().iter().filter(|answer| answer.is_some()).count()
+    plain
+        .answers
+        .as_slice()
+        .iter()
+        .filter(|answer| answer.is_some())
+        .count()
 }
 
 // The status of a report.
@@ -57,7 +62,9 @@ fn counts_text(
 ) -> Result<String, Want>
     ensures { IfOk result (λ text. string_bytes text ≡ counts_of total refuted mismatched) }
 {
-    let line = format!(in alloc; "obligations {total} refuted {refuted} mismatched {mismatched} spent 0\n")?;
+    let line = format!(in alloc;
+        "obligations {total} refuted {refuted} mismatched {mismatched} spent 0\n"
+    )?;
     Ok(line)
 }
 

@@ -17,8 +17,7 @@ pub fn rtl_settled_law()
         IsRtlSettled m on inputs (rtl_values m on inputs) }
     ensures only { (m : RtlModule) (on : Bool) (inputs : List Bool) (values : List Val) → is_rtl_form m ≡ true →
         IsRtlSettled m on inputs values → values ≡ rtl_values m on inputs }
-{
-}
+{}
 
 // The value that the input of this place is given.
 pub(crate) fn given_at(inputs: &[bool], place: usize) -> Val
@@ -59,7 +58,11 @@ fn assigned_value(m: &RtlModule, on: bool, inputs: &[bool], name: &[u8]) -> Val
             RtlItem::Wire(_) => {}
             RtlItem::Assign(a) => {
                 if a.target.is(name) {
-                    return if on { expr_value(m, inputs, &a.value) } else { Val::Corrupt };
+                    return if on {
+                        expr_value(m, inputs, &a.value)
+                    } else {
+                        Val::Corrupt
+                    };
                 }
             }
         }
