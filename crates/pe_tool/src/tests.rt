@@ -91,7 +91,29 @@ endmodule";
 
 const ACCEPTED: &str = "powereq: accepted\nobligations 1 refuted 1 mismatched 0 spent 0\n";
 
-const MISMATCH: &str = "powereq: mismatch\nobligations 1 refuted 0 mismatched 1 spent 0\n";
+// OR2 gives 1 at a 0 and b 1, where `a & b` is 0.
+const MISMATCH: &str = "powereq: mismatch
+obligations 1 refuted 0 mismatched 1 spent 0
+mismatch start ON output y
+  cycle 1
+    supply VDD on
+    supply VSS on
+    in a 0
+    in b 1
+  rtl 0 net 1
+";
+
+// A cell that is down gives corrupt, at the first inputs already.
+const MISMATCH_IN_THE_DARK: &str = "powereq: mismatch
+obligations 1 refuted 0 mismatched 1 spent 0
+mismatch start DARK output y
+  cycle 1
+    supply VDD off
+    supply VSS on
+    in a 0
+    in b 0
+  rtl 0 net x
+";
 
 const USAGE: &str = "usage: powereq check RTL UPF LIB NET MAP\n";
 
@@ -103,15 +125,20 @@ fn strings(alloc: Global, words: &[&str]) -> Result<Vec<String>, Fail> {
     Ok(strings)
 }
 
-// Files of the first names with these texts. The reads of these numbers fail.
-fn files_of(alloc: Global, texts: &[&str], fails: &[u64]) -> Result<MemFiles, Fail> {
+// Files of the first names with these texts, read in pieces of so many bytes. The reads of these numbers fail.
+fn files_of(
+    alloc: Global,
+    texts: &[&str],
+    piece: u32,
+    fails: &[u64],
+) -> Result<MemFiles, Fail> {
     let mut files = Items::new(alloc);
     for (name, text) in NAMES.iter().zip(texts) {
         let name = Name::new(alloc, name.as_bytes())?;
         let bytes = Items::from_slice(alloc, text.as_bytes())?;
         files.push((name, bytes))?;
     }
-    Ok(MemFiles::new(files, 65_536, Items::from_slice(alloc, fails)?))
+    Ok(MemFiles::new(files, piece, Items::from_slice(alloc, fails)?))
 }
 
 // What is answered to the words over files of these texts, and what is written.
@@ -122,7 +149,7 @@ fn run_on(
     fails: &[u64],
 ) -> Result<(u8, MemSink), Fail> {
     let words = strings(alloc, words)?;
-    let mut files = files_of(alloc, texts, fails)?;
+    let mut files = files_of(alloc, texts, 65_536, fails)?;
     let mut out = MemSink::new(alloc, 256, 256, Items::new(alloc))?;
     let status = run_alone(alloc, words.as_slice(), &mut files, &mut out);
     Ok((status, out))
@@ -132,7 +159,6 @@ fn run_on(
 fn judges(rt: HostRuntime) -> Result<(), Fail> {
     let cases = [
         (FILES, 0, ACCEPTED),
-        // OR2 gives 1 at a 0 and b 1, where `a & b` is 0.
         ([RTL, UPF, LIB, OR, ""], 1, MISMATCH),
         // With VDD off the domain is off, and so the RTL's y is corrupt: each value refines it.
         ([RTL, DARK, LIB, AND, ""], 0, ACCEPTED),
@@ -141,7 +167,7 @@ fn judges(rt: HostRuntime) -> Result<(), Fail> {
         ([RTL, DARK, LIB, AND_ON_VSS, ""], 0, ACCEPTED),
         // VSS is both of the domain's primary supplies, so that it is on. VDD is off, so that `!VDD` is 1 in a cell with
         // its power pin on VDD: the cell is down, its y is corrupt, and the RTL's is not. On VSS it is not down.
-        ([RTL, DARK_BUT_ON, LIB, AND, ""], 1, MISMATCH),
+        ([RTL, DARK_BUT_ON, LIB, AND, ""], 1, MISMATCH_IN_THE_DARK),
         ([RTL, DARK_BUT_ON, LIB, AND_ON_VSS, ""], 0, ACCEPTED),
         (
             [WIDE_RTL, UPF, LIB, WIDE_NET, ""],
@@ -252,10 +278,49 @@ fn names_what_is_not_read(rt: HostRuntime) -> Result<(), Fail> {
 }
 
 #[test]
+fn names_the_file_of_each_failed_read(rt: HostRuntime) -> Result<(), Fail> {
+    let alloc = rt.alloc();
+    // In pieces of 64 bytes a text of 67 bytes takes two reads, and a third finds the end. The texts have 67, 498, 739,
+    // 124 and 0 bytes.
+    let reads = [
+        ("rtl.v", 1..4),
+        ("power.upf", 4..13),
+        ("cells.lib", 13..26),
+        ("net.v", 26..29),
+        ("pairs.map", 29..30),
+    ];
+    for (name, numbers) in reads {
+        for number in numbers {
+            let words = strings(alloc, &WORDS)?;
+            let mut files = files_of(alloc, &FILES, 64, &[number])?;
+            let mut out = MemSink::new(alloc, 256, 256, Items::new(alloc))?;
+            assert_eq!(rt; run_alone(alloc, words.as_slice(), &mut files, &mut out), 4, "at {number}");
+            let line = format!(in alloc; "read fault: {name}\n")?;
+            assert_eq!(rt; out.written(), line.as_bytes(), "at {number}");
+        }
+    }
+    Ok(())
+}
+
+#[test]
+fn writes_the_front_of_a_report(rt: HostRuntime) -> Result<(), Fail> {
+    let alloc = rt.alloc();
+    // The report has 172 bytes: ten pieces of 16 bytes, and one of 12.
+    for (number, front) in (1..12).zip([0, 16, 32, 48, 64, 80, 96, 112, 128, 144, 160]) {
+        let words = strings(alloc, &WORDS)?;
+        let mut files = files_of(alloc, &[RTL, UPF, LIB, OR, ""], 65_536, &[])?;
+        let mut out = MemSink::new(alloc, 256, 16, Items::from_slice(alloc, &[number])?)?;
+        assert_eq!(rt; run_alone(alloc, words.as_slice(), &mut files, &mut out), 5, "at {number}");
+        assert_eq!(rt; Some(out.written()), MISMATCH.as_bytes().get(..front), "at {number}");
+    }
+    Ok(())
+}
+
+#[test]
 fn writes_in_pieces(rt: HostRuntime) -> Result<(), Fail> {
     let alloc = rt.alloc();
     let words = strings(alloc, &WORDS)?;
-    let mut files = files_of(alloc, &FILES, &[])?;
+    let mut files = files_of(alloc, &FILES, 65_536, &[])?;
     let mut out = MemSink::new(alloc, 256, 3, Items::from_slice(alloc, &[4])?)?;
     assert_eq!(rt; run_alone(alloc, words.as_slice(), &mut files, &mut out), 5);
     assert_eq!(rt; out.written(), b"powereq: ".as_slice());
