@@ -1,5 +1,5 @@
 -- The five texts give one design at most, and one answer.
-use Rattle.std.proofs.Common.{◌≡◌, ℕ, ◌<◌, ◌≤◌, Bool, true, false, List, [], ◌∷◌, length, refl, sym, ap, ◌∙◌, subst, arith, Result, Ok, Err}
+use Rattle.std.proofs.Common.{◌≡◌, ℕ, ◌<◌, ◌≤◌, List, [], ◌∷◌, refl, sym, ap, ◌∙◌, subst, arith, Result, Ok, Err}
 use Rattle.pe_base.specs.declared.text.Texts.{Texts}
 use Rattle.pe_verilog_read.specs.declared.rtl.RtlModule.{RtlModule}
 use Rattle.pe_verilog_read.specs.Rtl.{IsRtl}
@@ -12,8 +12,6 @@ use Rattle.pe_tool.specs.declared.upf.Command.{Command}
 use Rattle.pe_tool.specs.declared.intent.PowerIntent.{PowerIntent}
 use Rattle.pe_tool.specs.declared.cell.CellView.{CellView}
 use Rattle.pe_tool.specs.declared.design.Design.{Design}
-use Rattle.pe_tool.specs.declared.fault.FormFault.{FormFault}
-use Rattle.pe_tool.specs.declared.fault.FormFault.TheVariants as form
 use Rattle.pe_tool.specs.declared.question.Plain.{Plain}
 use Rattle.pe_tool.specs.declared.question.Part.{Part}
 use Rattle.pe_tool.specs.declared.question.Part.TheVariants.{Rtl, Upf, Lib, Net, Map}
@@ -23,10 +21,9 @@ use Rattle.pe_tool.specs.declared.question.CheckFault.TheVariants.{Memory, Refus
 use Rattle.pe_tool.specs.Upf.{IsUpf}
 use Rattle.pe_tool.specs.Intent.{IsIntent}
 use Rattle.pe_tool.specs.Cell.{IsCell}
-use Rattle.pe_tool.specs.Map.{IsMap}
 use Rattle.pe_tool.specs.Fit.{HasViews}
-use Rattle.pe_tool.specs.Equivalent.{IsPower, IsNetlist, IsNetlistOf, IsDesignAnswer, IsDesign}
-use Rattle.pe_tool.specs.Outcome.{IsBuilt, IsNotBuilt, IsTooWide, IsPlain, IsOutcome, IsSame, IsRefused, input_count, told_count}
+use Rattle.pe_tool.specs.Equivalent.{IsPower, IsNetlist, IsNetlistOf, IsDesign}
+use Rattle.pe_tool.specs.Outcome.{IsBuilt, IsNotBuilt, IsOutcome, IsSame, IsRefused, input_count, told_count}
 use Rattle.pe_tool.specs.Questions.{questions, answers}
 use Rattle.pe_tool.proofs.Stages.{OneRtl, power_moved}
 

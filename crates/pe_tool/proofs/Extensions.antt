@@ -1,8 +1,7 @@
 -- A replacement of the first value goes in front of those of the others.
-use Rattle.std.proofs.Common.{◌≡◌, Bool, true, false, List, [], ◌∷◌, ◌++◌, refl, sym, ap, ◌∙◌, append_assoc}
+use Rattle.std.proofs.Common.{◌≡◌, Bool, true, false, List, [], ◌∷◌, ◌++◌, ap, ◌∙◌, append_assoc}
 use Rattle.pe_base.specs.declared.value.Val.{Val}
-use Rattle.pe_base.specs.declared.value.Val.TheVariants.{Zero, One, Corrupt}
-use Rattle.pe_base.specs.Values.{merge_of, merge_over, pick_of}
+use Rattle.pe_base.specs.Values.{merge_over, pick_of}
 
 -- the merge depends on what is merged alone
 pub merge_over_same : (g h : List Bool → Val) (vs : List Val) → ((r : List Bool) → g r ≡ h r) → merge_over vs g ≡ merge_over vs h

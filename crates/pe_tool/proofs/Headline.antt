@@ -1,22 +1,21 @@
 -- Where no assignment refutes, the netlist is equivalent to the RTL.
-use Rattle.std.proofs.Common.{◌≡◌, ◌⊎◌, ℕ, zero, suc, ◌+◌, ◌<◌, Bool, true, false, not, ◌&&◌, cond, List, [], ◌∷◌, ◌++◌, map, length, take, drop, Option, Some, None, refl, sym, ap, ◌∙◌, arith, get_or, inl, inr, length-append, subst}
-use Rattle.std.specs.Prelude.{find, is_none, slice_index_or}
+use Rattle.std.proofs.Common.{◌≡◌, ℕ, zero, suc, ◌+◌, ◌<◌, Bool, true, false, not, ◌&&◌, cond, List, [], ◌∷◌, ◌++◌, map, length, take, drop, Option, Some, None, refl, sym, ap, ◌∙◌, arith, get_or, inl, inr, length-append}
+use Rattle.std.specs.Prelude.{find, is_none}
 use Rattle.std.specs.List.{list_all, flat_map, Contains}
 use Rattle.std.proofs.lemmas.List.Folds.{list_all-append}
 use Rattle.std.proofs.Math.Seq.{take-append_seam, drop-append_seam}
 use Rattle.pe_base.specs.declared.value.Val.{Val}
 use Rattle.pe_base.specs.declared.value.Val.TheVariants.{Zero, One, Corrupt}
 use Rattle.pe_base.specs.Values.{Refines}
-use Rattle.pe_base.specs.Names.{has_name}
-use Rattle.pe_verilog_read.specs.Ports.{input_names, output_names, port_names}
+use Rattle.pe_verilog_read.specs.Ports.{output_names}
 use Rattle.pe_verilog_read.specs.Rtl.{rtl_nets, is_rtl_form}
 use Rattle.pe_verilog_read.specs.Net.{net_nets}
 use Rattle.pe_tool.specs.declared.design.Design.{Design}
 use Rattle.pe_tool.specs.declared.intent.Row.{Row}
 use Rattle.pe_tool.specs.Fit.{is_fit}
 use Rattle.pe_tool.specs.Rows.{row_holds, domain_on}
-use Rattle.pe_tool.specs.RtlMeaning.{value_in, rtl_values, IsRtlSettled}
-use Rattle.pe_tool.specs.NetMeaning.{net_values, IsNetSettled}
+use Rattle.pe_tool.specs.RtlMeaning.{value_in, rtl_values}
+use Rattle.pe_tool.specs.NetMeaning.{net_values}
 use Rattle.pe_tool.specs.Questions.{is_refined, assignments, width, roots_of, inputs_of, rtl_output, net_output, refutes, first_refuting, row_answers, answers}
 use Rattle.pe_tool.specs.Equivalent.{Refined}
 use Rattle.pe_tool.proofs.NameFacts.{and_left, and_right}
@@ -102,15 +101,15 @@ refined_where_none d formed fits none = record {
       let quiet : refutes d row output bits ≡ false = none_of_all (refutes d row output) bits (width d) long (none_for d row output none in_rows in_outputs) in
       let kept : row_holds d.intent row (roots_of d bits) ≡ true = ap (row_holds d.intent row) front ∙ holds in
       let tested : is_refined (net_output d bits output) (rtl_output d bits output) ≡ true =
-          not_refuted (row_holds d.intent row (roots_of d bits)) (is_refined (net_output d bits output) (rtl_output d bits output)) kept quiet in
+      not_refuted (row_holds d.intent row (roots_of d bits)) (is_refined (net_output d bits output) (rtl_output d bits output)) kept quiet in
       let rtl_same : rtl_output d bits output ≡ value_in (rtl_nets d.rtl) rtl_map output =
-          ap (λ r. value_in (rtl_nets d.rtl) (rtl_values d.rtl (domain_on d.intent r) (inputs_of d bits)) output) front
-          ∙ ap (λ i. value_in (rtl_nets d.rtl) (rtl_values d.rtl (domain_on d.intent roots) i) output) back
-          ∙ ap (λ values. value_in (rtl_nets d.rtl) values output) (sym (rtl_settled_only d.rtl (domain_on d.intent roots) inputs rtl_map formed rtl_is)) in
+      ap (λ r. value_in (rtl_nets d.rtl) (rtl_values d.rtl (domain_on d.intent r) (inputs_of d bits)) output) front
+      ∙ ap (λ i. value_in (rtl_nets d.rtl) (rtl_values d.rtl (domain_on d.intent roots) i) output) back
+      ∙ ap (λ values. value_in (rtl_nets d.rtl) values output) (sym (rtl_settled_only d.rtl (domain_on d.intent roots) inputs rtl_map formed rtl_is)) in
       let net_same : net_output d bits output ≡ value_in (net_nets d.net) net_map output =
-          ap (λ r. value_in (net_nets d.net) (net_values d r (inputs_of d bits)) output) front
-          ∙ ap (λ i. value_in (net_nets d.net) (net_values d roots i) output) back
-          ∙ ap (λ values. value_in (net_nets d.net) values output) (sym (net_settled_only d roots inputs net_map fits net_is)) in
+      ap (λ r. value_in (net_nets d.net) (net_values d r (inputs_of d bits)) output) front
+      ∙ ap (λ i. value_in (net_nets d.net) (net_values d roots i) output) back
+      ∙ ap (λ values. value_in (net_nets d.net) values output) (sym (net_settled_only d roots inputs net_map fits net_is)) in
       refined_true (value_in (net_nets d.net) net_map output) (value_in (rtl_nets d.rtl) rtl_map output)
       (sym (ap (λ v. is_refined v (rtl_output d bits output)) net_same ∙ ap (is_refined (value_in (net_nets d.net) net_map output)) rtl_same) ∙ tested);
 }

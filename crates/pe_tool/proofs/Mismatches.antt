@@ -1,15 +1,13 @@
 -- A mismatch among the answers stands at an assignment that replays.
-use Rattle.std.proofs.Common.{◌≡◌, ◌⊎◌, ℕ, zero, suc, ◌+◌, ◌-◌, ◌<◌, ◌≤◌, min, Bool, true, false, not, ◌&&◌, cond, List, [], ◌∷◌, ◌++◌, map, length, take, drop, Option, Some, None, refl, sym, ap, ◌∙◌, subst, arith, get_or, inl, inr}
-use Rattle.std.specs.Prelude.{find, is_some, count_by, slice_index_or}
-use Rattle.std.specs.Option.{option_or}
-use Rattle.std.specs.List.{flat_map, Contains, sum_by}
+use Rattle.std.proofs.Common.{◌≡◌, ◌⊎◌, ℕ, zero, suc, ◌+◌, ◌<◌, Bool, true, false, not, cond, List, [], ◌∷◌, ◌++◌, map, length, Option, Some, None, refl, sym, ap, ◌∙◌, arith, inl, inr}
+use Rattle.std.specs.Prelude.{find, is_some, count_by}
+use Rattle.std.specs.List.{flat_map, Contains}
 use Rattle.std.proofs.lemmas.List.{length-take, length-drop}
 use Rattle.std.proofs.lemmas.List.Sums.{sum_by-cons, sum_by-append}
-use Rattle.std.proofs.lemmas.List.Folds.{find-append}
 use Rattle.pe_base.specs.declared.value.Val.{Val}
 use Rattle.pe_base.specs.declared.value.Val.TheVariants.{Zero, One, Corrupt}
 use Rattle.pe_base.specs.Values.{Refines}
-use Rattle.pe_verilog_read.specs.Ports.{input_names, output_names}
+use Rattle.pe_verilog_read.specs.Ports.{output_names}
 use Rattle.pe_verilog_read.specs.Rtl.{is_rtl_form}
 use Rattle.pe_tool.specs.declared.design.Design.{Design}
 use Rattle.pe_tool.specs.declared.intent.Row.{Row}
@@ -34,6 +32,7 @@ some_mapped f (x ∷ xs) h = at_head (f x) refl (some_mapped f xs)
   where
     Found : Type 0
     Found = (y : _) × (bits : List Bool) × Contains (x ∷ xs) y × (f y ≡ Some bits)
+
     at_head : (o : Option (List Bool)) → f x ≡ o → (0 < count_by is_some (map f xs) → (y : _) × (bits : List Bool) × Contains xs y × (f y ≡ Some bits)) → Found
     at_head (Some bits) e more = (x, bits, (0, omega arith, refl), e)
     at_head None e more =
@@ -49,6 +48,7 @@ some_joined f (x ∷ xs) h = at_head (count_by is_some (f x)) refl (some_joined 
   where
     Found : Type 0
     Found = (y : _) × Contains (x ∷ xs) y × (0 < count_by is_some (f y))
+
     at_head : (n : ℕ) → count_by is_some (f x) ≡ n → (0 < count_by is_some (flat_map f xs) → (y : _) × Contains xs y × (0 < count_by is_some (f y))) → Found
     at_head (suc n) e more = (x, (0, omega arith, refl), omega (arith, e))
     at_head zero e more =
@@ -105,8 +105,8 @@ found_long p zero bits e = alone (p []) e
     alone false k = absurd (let z : None ≡ Some bits = k in cc)
 found_long p (suc n) bits e =
     elim (found_in_either p (map (λ r. false ∷ r) (assignments n)) (map (λ r. true ∷ r) (assignments n)) bits e) [
-      inl a ↦ (let m = found_image p (λ r. false ∷ r) (assignments n) bits a in ap length m.2 ∙ ap suc (found_long (λ r. p (false ∷ r)) n m.0 m.1))
-    | inr b ↦ (let m = found_image p (λ r. true ∷ r) (assignments n) bits b in ap length m.2 ∙ ap suc (found_long (λ r. p (true ∷ r)) n m.0 m.1))
+      | inl a ↦ (let m = found_image p (λ r. false ∷ r) (assignments n) bits a in ap length m.2 ∙ ap suc (found_long (λ r. p (false ∷ r)) n m.0 m.1))
+      | inr b ↦ (let m = found_image p (λ r. true ∷ r) (assignments n) bits b in ap length m.2 ∙ ap suc (found_long (λ r. p (true ∷ r)) n m.0 m.1))
     ]
 
 self_refined : (v : Val) → is_refined v v ≡ true

@@ -1,10 +1,10 @@
 -- The lines of a report, one behind the other.
-use Rattle.std.proofs.Common.{◌≡◌, ℕ, ◌+◌, ◌<◌, Bool, List, [], ◌∷◌, ◌++◌, length, drop, get_or, refl, sym, ap, ◌∙◌, append_assoc, append-nil, arith, Option, Some, None}
+use Rattle.std.proofs.Common.{◌≡◌, ℕ, ◌+◌, ◌<◌, Bool, List, [], ◌∷◌, ◌++◌, length, drop, get_or, refl, sym, ap, ◌∙◌, append_assoc, append-nil, arith, Option}
 use Rattle.std.proofs.lemmas.List.{drop_more}
 use Rattle.std.specs.Prelude.{codes}
 use Rattle.pe_tool.specs.declared.design.Design.{Design}
 use Rattle.pe_tool.specs.declared.question.Question.{Question}
-use Rattle.pe_tool.specs.Report.{two_words, on_word, supply_lines, block, block_of, blocks}
+use Rattle.pe_tool.specs.Report.{two_words, on_word, supply_lines, block_of, blocks}
 
 -- a root's line comes before those of the roots behind it
 pub supply_step : (out next whole : List ℕ) (names : List (List ℕ)) (k : ℕ) (name : List ℕ) (rest more : List Bool) (bit : Bool) → k < length names → name ≡ get_or names k name → rest ≡ bit ∷ more →

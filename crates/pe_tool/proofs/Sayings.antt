@@ -1,20 +1,18 @@
 -- What is said has its cause.
-use Rattle.std.proofs.Common.{◌≡◌, ◌≢◌, ◌⊎◌, ℕ, zero, suc, ◌+◌, ◌<◌, ◌≤◌, Bool, true, false, cond, List, [], ◌∷◌, refl, sym, ap, ◌∙◌, subst, inl, inr, arith, zero-add, Option, Some, None, Result, Ok, Err, IfOk}
-use Rattle.std.specs.Prelude.{string_bytes, ◌==◌, count_by, is_some, is_none}
+use Rattle.std.proofs.Common.{◌≡◌, ◌⊎◌, ℕ, ◌+◌, ◌<◌, ◌≤◌, Bool, true, false, cond, List, [], ◌∷◌, refl, sym, ap, ◌∙◌, subst, inl, inr, arith, zero-add, Option, Some, None, Result, Ok, Err, IfOk}
+use Rattle.std.specs.Prelude.{◌==◌, count_by, is_some, is_none}
 use Rattle.std.specs.List.{list_all}
 use Rattle.std.proofs.lemmas.List.Sums.{sum_by-cons}
 use Rattle.std.proofs.lemmas.Bool.Decides.{nat_tests}
 use Rattle.pe_base.specs.declared.text.Want.{Want}
 use Rattle.pe_base.specs.declared.text.Texts.{Texts}
-use Rattle.pe_outside.specs.Outside.{HasRisen, grown, GrowsByPrefix}
+use Rattle.pe_outside.specs.Outside.{HasRisen, grown}
 use Rattle.pe_tool.specs.declared.run.Said.{Said}
 use Rattle.pe_tool.specs.declared.question.Plain.{Plain}
-use Rattle.pe_tool.specs.declared.question.Part.{Part}
-use Rattle.pe_tool.specs.declared.question.Fault.{Fault}
 use Rattle.pe_tool.specs.declared.question.CheckFault.TheVariants.{Refused}
 use Rattle.pe_tool.specs.declared.question.Part.TheVariants.{Rtl, Upf, Lib, Net, Map}
 use Rattle.pe_tool.specs.declared.question.Fault.TheVariants.{NotBuilt, TooWide}
-use Rattle.pe_tool.specs.Outcome.{IsReported, IsOutcome, input_count}
+use Rattle.pe_tool.specs.Outcome.{IsReported, input_count}
 use Rattle.pe_tool.proofs.Exact.{no_design}
 use Rattle.pe_tool.proofs.Mismatches.{mismatch_found, replays}
 use Rattle.pe_tool.specs.Reads.{StandFor}
@@ -24,7 +22,7 @@ use Rattle.pe_tool.specs.Questions.{answers, roots_of, inputs_of}
 use Rattle.pe_tool.specs.Report.{mismatched, report_status}
 use Rattle.pe_tool.specs.Equivalent.{IsDesign, Refined, IsEquivalent}
 use Rattle.pe_tool.proofs.Headline.{refined_where_none}
-use Rattle.pe_tool.specs.Said.{Says, IsJudged, IsSaid}
+use Rattle.pe_tool.specs.Said.{IsJudged, IsSaid}
 use Rattle.pe_tool.proofs.Standing.{same_outcome, same_reported}
 
 -- no five texts give two designs
@@ -135,8 +133,8 @@ either_status p = by_test (mismatched p == 0)
 pub judged_complete : OneDesign → (t : Texts) (d : Design) (saying : Saying) (status : ℕ) → IsDesign t d → input_count d ≤ 8 → IsRight t saying → status ≡ status_of saying → ((status ≡ 0) × Refined d) ⊎ ((status ≡ 1) × HasMismatch t)
 judged_complete one t d (reported e p) status x narrow r s =
     elim (either_status p) [
-      inl z ↦ inl (s ∙ z, (let P : Design → Type 0 = λ c. Refined c in subst P (one t e d r.0 x) (report_refined t e p z r)))
-    | inr o ↦ inr (s ∙ o, report_mismatch t e p o r)
+      | inl z ↦ inl (s ∙ z, (let P : Design → Type 0 = λ c. Refined c in subst P (one t e d r.0 x) (report_refined t e p z r)))
+      | inr o ↦ inr (s ∙ o, report_mismatch t e p o r)
     ]
 judged_complete one t d (refused part NotBuilt) status x narrow r s = absurd (no_design part t d r x)
 judged_complete one t d (refused Rtl (TooWide count)) status x narrow (e, y, wide, told) s =

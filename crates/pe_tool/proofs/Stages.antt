@@ -1,13 +1,12 @@
 -- The first part that is not built, from what is known of the parts before it.
-use Rattle.std.proofs.Common.{◌≡◌, ℕ, Bool, true, false, List, refl, sym, ap, ◌∙◌, subst, Result, Ok, Err, IfOk}
+use Rattle.std.proofs.Common.{◌≡◌, ℕ, true, false, List, refl, sym, ap, ◌∙◌, subst, Result, Ok, Err, IfOk}
 use Rattle.std.specs.Prelude.{IsErrOf}
 use Rattle.pe_base.specs.declared.text.Texts.{Texts}
 use Rattle.pe_verilog_read.specs.declared.rtl.RtlModule.{RtlModule}
 use Rattle.pe_verilog_read.specs.Rtl.{IsRtl}
 use Rattle.pe_liberty_read.specs.declared.library.Library.{Library}
-use Rattle.pe_liberty_read.specs.Spelling.{IsLibrary}
 use Rattle.pe_tool.specs.declared.intent.PowerIntent.{PowerIntent}
-use Rattle.pe_tool.specs.declared.question.Part.TheVariants.{Rtl, Upf, Lib, Net, Map}
+use Rattle.pe_tool.specs.declared.question.Part.TheVariants.{Upf}
 use Rattle.pe_verilog_read.specs.declared.net.NetModule.{NetModule}
 use Rattle.pe_verilog_read.specs.Net.{IsNet, instances}
 use Rattle.pe_tool.specs.declared.cell.CellView.{CellView}
@@ -15,8 +14,8 @@ use Rattle.pe_tool.specs.declared.design.Design.{Design}
 use Rattle.pe_tool.specs.declared.fault.FormFault.{FormFault}
 use Rattle.pe_tool.specs.declared.fault.FormFault.TheVariants.{Memory, NotBuilt}
 use Rattle.pe_tool.specs.Fit.{HasViews, is_fit}
-use Rattle.pe_tool.specs.Equivalent.{IsPower, IsNetlist, IsNetlistOf, IsDesignAnswer}
-use Rattle.pe_tool.specs.Outcome.{IsBuilt, IsNotBuilt}
+use Rattle.pe_tool.specs.Equivalent.{IsPower, IsNetlistOf, IsDesignAnswer}
+use Rattle.pe_tool.specs.Outcome.{IsNotBuilt}
 
 -- no text spells two RTL modules
 abbrev pub OneRtl : Type 0

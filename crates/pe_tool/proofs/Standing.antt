@@ -1,5 +1,5 @@
 -- A text that stands for a file over its limit is spelled by nothing, as the file is.
-use Rattle.std.proofs.Common.{◌≡◌, ◌≢◌, ◌⊎◌, ℕ, ◌<◌, ◌≤◌, Bool, false, List, [], ◌∷◌, ◌++◌, length, refl, sym, ap, ◌∙◌, subst, arith, inl, inr, Result, Ok, Err}
+use Rattle.std.proofs.Common.{◌≡◌, ◌≢◌, ℕ, ◌≤◌, false, List, [], ◌++◌, length, refl, sym, subst, arith, inl, inr, Result, Ok, Err}
 use Rattle.pe_base.specs.declared.text.Texts.{Texts}
 use Rattle.pe_base.specs.Walk.{Start, bad, IsCut}
 use Rattle.pe_base.proofs.Walks.{reaches_start, cut_bad}
@@ -24,7 +24,7 @@ use Rattle.pe_tool.specs.UpfTokens.{upf_start, next_command, end_token}
 use Rattle.pe_tool.specs.Upf.{IsUpf, ended}
 use Rattle.pe_tool.specs.Map.{IsMap, map_start}
 use Rattle.pe_tool.specs.Equivalent.{IsPower, IsNetlist, IsDesign}
-use Rattle.pe_tool.specs.Outcome.{IsBuilt, IsNotBuilt, IsTooWide, IsPlain, IsReported, IsOutcome}
+use Rattle.pe_tool.specs.Outcome.{IsBuilt, IsNotBuilt, IsReported, IsOutcome}
 use Rattle.pe_tool.specs.Reads.{StandsFor, StandFor, unspelled}
 
 -- a text at whose start nothing starts is not cut
@@ -83,7 +83,12 @@ files_alike s t h = record {
 
 same_design : (s t : Texts) (d : Design) → Alike s t → IsDesign s d → IsDesign t d
 same_design s t d a x = record {
-  rtl = a.rtl d.rtl x.rtl; upf = a.upf d.rtl d.intent x.upf; library = x.library; lib = a.lib x.library x.lib; net = a.net x.library d x.net; mapped = a.map x.mapped
+  rtl = a.rtl d.rtl x.rtl;
+  upf = a.upf d.rtl d.intent x.upf;
+  library = x.library;
+  lib = a.lib x.library x.lib;
+  net = a.net x.library d x.net;
+  mapped = a.map x.mapped;
 }
 
 same_built : (part : Part) (s t : Texts) → Alike s t → IsBuilt part s → IsBuilt part t

@@ -1,6 +1,5 @@
 -- The views of the cells that are used, as far as a loop over the netlist's items has come.
-use Rattle.std.proofs.Common.{◌≡◌, ℕ, ◌+◌, ◌<◌, List, [], ◌∷◌, ◌++◌, length, drop, get_or, refl, sym, ap, ◌∙◌, subst, append_assoc, append-nil, Result, Ok, Err}
-use Rattle.std.specs.List.{AllZip}
+use Rattle.std.proofs.Common.{◌≡◌, ℕ, ◌+◌, ◌<◌, List, [], ◌∷◌, ◌++◌, length, drop, get_or, refl, sym, ap, ◌∙◌, subst, append_assoc, append-nil, Err}
 use Rattle.std.proofs.lemmas.List.{drop_more}
 use Rattle.pe_verilog_read.specs.declared.net.Instance.{Instance}
 use Rattle.pe_verilog_read.specs.declared.net.NetItem.{NetItem}

@@ -1,12 +1,11 @@
 -- When five texts give a design, and when its netlist is equivalent to its RTL.
 use Rattle.std.specs.Prelude.{◌≡◌, ℕ, Bool, true, not, List, length, Result, Ok, Err}
-use Rattle.std.specs.List.{All, list_all, Contains}
+use Rattle.std.specs.List.{list_all, Contains}
 use Rattle.pe_base.specs.declared.value.Val.{Val}
 use Rattle.pe_base.specs.declared.text.Texts.{Texts}
 use Rattle.pe_base.specs.Values.{Refines}
 use Rattle.pe_base.specs.Names.{has_name}
 use Rattle.pe_verilog_read.specs.declared.rtl.RtlModule.{RtlModule}
-use Rattle.pe_verilog_read.specs.declared.net.NetModule.{NetModule}
 use Rattle.pe_verilog_read.specs.Ports.{input_names, output_names, port_names}
 use Rattle.pe_verilog_read.specs.Rtl.{IsRtl, rtl_nets}
 use Rattle.pe_verilog_read.specs.Net.{IsNet, instances, net_nets}

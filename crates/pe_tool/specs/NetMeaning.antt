@@ -1,8 +1,7 @@
 -- What a netlist of cells means: its settled maps. A map gives each net a value, in the order of the nets. It is settled
 -- where each net has what drives it under this same map: an input its given value, and a net on a cell's output pin the
 -- exact extension of the pin's function, corrupt where the pin's power_down_function is 1 or corrupt (Liberty).
-use Rattle.std.specs.Prelude.{◌≡◌, ℕ, ◌<◌, Bool, false, cond, not, List, [], ◌∷◌, ◌++◌, map, length, slice_index_or, find, Option, Some, None}
-use Rattle.std.specs.List.{zip}
+use Rattle.std.specs.Prelude.{◌≡◌, ℕ, ◌<◌, Bool, false, cond, not, List, [], ◌∷◌, map, length, slice_index_or, find, Option, Some, None}
 use Rattle.std.specs.Str.{bytes_eq}
 use Rattle.pe_base.specs.declared.value.Val.{Val}
 use Rattle.pe_base.specs.declared.value.Val.TheVariants.{Zero, One, Corrupt}

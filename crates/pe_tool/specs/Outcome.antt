@@ -1,5 +1,5 @@
 -- What a check of five texts answers, and where.
-use Rattle.std.specs.Prelude.{◌≡◌, ℕ, ◌<◌, ◌≤◌, List, length, min, Result, Ok, Err}
+use Rattle.std.specs.Prelude.{◌≡◌, ℕ, ◌<◌, ◌≤◌, length, min, Result, Ok, Err}
 use Rattle.pe_base.specs.declared.text.Texts.{Texts}
 use Rattle.pe_verilog_read.specs.declared.rtl.RtlModule.{RtlModule}
 use Rattle.pe_verilog_read.specs.Ports.{input_names}

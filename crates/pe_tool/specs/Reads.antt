@@ -1,5 +1,5 @@
 -- What the texts that are judged have to do with what is told of the files.
-use Rattle.std.specs.Prelude.{◌≡◌, ◌⊎◌, ℕ, ◌<◌, ◌≤◌, List, [], ◌∷◌, length, Option, Some, None}
+use Rattle.std.specs.Prelude.{◌≡◌, ◌⊎◌, ℕ, ◌<◌, List, [], ◌∷◌, length}
 use Rattle.pe_base.specs.declared.text.Texts.{Texts}
 use Rattle.pe_outside.specs.Outside.{HasRisen}
 use Rattle.pe_tool.specs.declared.read.ReadStop.{ReadStop}

@@ -1,5 +1,5 @@
 -- What the program answers to its words, over files and an output.
-use Rattle.std.specs.Prelude.{◌≡◌, ◌⊎◌, ℕ, ◌<◌, ◌≤◌, ◌==◌, Bool, true, false, cond, not, ◌&&◌, List, [], ◌∷◌, ◌++◌, map, length, codes, string_bytes, String, Option, Some, None, Result, Ok, Err}
+use Rattle.std.specs.Prelude.{◌≡◌, ◌⊎◌, ℕ, ◌==◌, Bool, true, false, cond, not, ◌&&◌, List, [], ◌∷◌, map, length, codes, string_bytes, String, Option, Some, None, Err}
 use Rattle.std.specs.Global.{Global}
 use Rattle.std.specs.List.{list_all, Contains}
 use Rattle.std.specs.Str.{bytes_eq}
@@ -21,7 +21,7 @@ use Rattle.pe_tool.specs.RtlMeaning.{IsRtlSettled, value_in}
 use Rattle.pe_tool.specs.NetMeaning.{IsNetSettled}
 use Rattle.pe_tool.specs.Equivalent.{IsDesign}
 use Rattle.pe_tool.specs.Outcome.{IsReported, IsOutcome}
-use Rattle.pe_tool.specs.Report.{mismatched, report, report_status, refusal, read_fault, usage}
+use Rattle.pe_tool.specs.Report.{report, report_status, refusal, read_fault, usage}
 
 -- the names of the five files
 pub record FileNames : Type 0 where

@@ -142,7 +142,14 @@ fn add_supplies(
         match rest.split_first() {
             None => return Ok(()),
             Some((bit, more)) => {
-                add_line(alloc, out, b"    supply ", name.bytes(), b" ", on_word(*bit))?;
+                add_line(
+                    alloc,
+                    out,
+                    b"    supply ",
+                    name.bytes(),
+                    b" ",
+                    on_word(*bit),
+                )?;
                 rest = more;
             }
         }
@@ -151,12 +158,7 @@ fn add_supplies(
 }
 
 // Adds a line for each input.
-fn add_inputs(
-    alloc: Global,
-    out: &mut Items<u8>,
-    ports: &[Port],
-    bits: &[bool],
-) -> Result<(), Want>
+fn add_inputs(alloc: Global, out: &mut Items<u8>, ports: &[Port], bits: &[bool]) -> Result<(), Want>
     ensures { OnOk result (out.new ≡ out.old ++ input_lines (input_names ports.now) bits.now) }
 {
     let mut rest = bits;
@@ -166,7 +168,14 @@ fn add_inputs(
             Direction::Input => match rest.split_first() {
                 None => return Ok(()),
                 Some((bit, more)) => {
-                    add_line(alloc, out, b"    in ", port.name.bytes(), b" ", bit_word(*bit))?;
+                    add_line(
+                        alloc,
+                        out,
+                        b"    in ",
+                        port.name.bytes(),
+                        b" ",
+                        bit_word(*bit),
+                    )?;
                     rest = more;
                 }
             },
@@ -258,7 +267,14 @@ fn add_block(
     let step = step_words(alloc, d, question.step)?;
     add_line(alloc, out, b"mismatch ", step.as_slice(), b" output ", name)?;
     add_sample(alloc, out, d, bits)?;
-    add_line(alloc, out, b"  rtl ", value_word(rtl), b" net ", value_word(net))?;
+    add_line(
+        alloc,
+        out,
+        b"  rtl ",
+        value_word(rtl),
+        b" net ",
+        value_word(net),
+    )?;
     Ok(())
 }
 
@@ -310,7 +326,13 @@ pub(crate) fn report(alloc: Global, d: &Design, plain: &Plain) -> Result<Items<u
     let mut out = Items::new(alloc);
     add(alloc, &mut out, verdict.as_str().as_bytes())?;
     add(alloc, &mut out, counts.as_str().as_bytes())?;
-    add_blocks(alloc, &mut out, d, plain.questions.as_slice(), plain.answers.as_slice())?;
+    add_blocks(
+        alloc,
+        &mut out,
+        d,
+        plain.questions.as_slice(),
+        plain.answers.as_slice(),
+    )?;
     Ok(out)
 }
 

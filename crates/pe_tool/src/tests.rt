@@ -1,5 +1,7 @@
 //! The whole, over files in memory. What is expected was worked out by hand.
 
+ghost use Rattle.std.specs.Prelude.{◌<◌};
+
 use crate::{Point, Question, check_alone, run_alone};
 use pe_base::{Name, Step, Texts};
 use pe_outside::{MemFiles, MemSink};
@@ -126,12 +128,9 @@ fn strings(alloc: Global, words: &[&str]) -> Result<Vec<String>, Fail> {
 }
 
 // Files of the first names with these texts, read in pieces of so many bytes. The reads of these numbers fail.
-fn files_of(
-    alloc: Global,
-    texts: &[&str],
-    piece: u32,
-    fails: &[u64],
-) -> Result<MemFiles, Fail> {
+fn files_of(alloc: Global, texts: &[&str], piece: u32, fails: &[u64]) -> Result<MemFiles, Fail>
+    requires { 0 < piece }
+{
     let mut files = Items::new(alloc);
     for (name, text) in NAMES.iter().zip(texts) {
         let name = Name::new(alloc, name.as_bytes())?;
@@ -294,7 +293,11 @@ fn names_the_file_of_each_failed_read(rt: HostRuntime) -> Result<(), Fail> {
             let words = strings(alloc, &WORDS)?;
             let mut files = files_of(alloc, &FILES, 64, &[number])?;
             let mut out = MemSink::new(alloc, 256, 256, Items::new(alloc))?;
-            assert_eq!(rt; run_alone(alloc, words.as_slice(), &mut files, &mut out), 4, "at {number}");
+            assert_eq!(rt;
+                run_alone(alloc, words.as_slice(), &mut files, &mut out),
+                4,
+                "at {number}"
+            );
             let line = format!(in alloc; "read fault: {name}\n")?;
             assert_eq!(rt; out.written(), line.as_bytes(), "at {number}");
         }
@@ -310,8 +313,16 @@ fn writes_the_front_of_a_report(rt: HostRuntime) -> Result<(), Fail> {
         let words = strings(alloc, &WORDS)?;
         let mut files = files_of(alloc, &[RTL, UPF, LIB, OR, ""], 65_536, &[])?;
         let mut out = MemSink::new(alloc, 256, 16, Items::from_slice(alloc, &[number])?)?;
-        assert_eq!(rt; run_alone(alloc, words.as_slice(), &mut files, &mut out), 5, "at {number}");
-        assert_eq!(rt; Some(out.written()), MISMATCH.as_bytes().get(..front), "at {number}");
+        assert_eq!(rt;
+            run_alone(alloc, words.as_slice(), &mut files, &mut out),
+            5,
+            "at {number}"
+        );
+        assert_eq!(rt;
+            Some(out.written()),
+            MISMATCH.as_bytes().get(..front),
+            "at {number}"
+        );
     }
     Ok(())
 }

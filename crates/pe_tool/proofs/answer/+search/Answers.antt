@@ -1,4 +1,4 @@
-use Rattle.std.proofs.Common.{◌≡◌, sym, ap, ◌∙◌}
+use Rattle.std.proofs.Common.{sym, ◌∙◌}
 use Rattle.pe_tool.specs.Questions.{refutes}
 use Rattle.pe_tool.proofs.Searches.{found_first, found_second}
 use Rattle.pe_tool.proofs.answer.+search.Goals as goal

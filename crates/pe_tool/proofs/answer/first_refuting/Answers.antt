@@ -1,5 +1,4 @@
-use Rattle.std.proofs.Common.{◌≡◌, ◌+◌, length, refl, ap, ◌∙◌}
-use Rattle.pe_verilog_read.specs.Ports.{input_names}
+use Rattle.std.proofs.Common.{◌≡◌, ◌+◌, refl}
 use Rattle.pe_tool.specs.Questions.{refutes, width}
 use Rattle.pe_tool.proofs.Searches.{found_of_all}
 use Rattle.pe_tool.proofs.answer.first_refuting.Goals as goal

@@ -1,4 +1,4 @@
-use Rattle.std.proofs.Common.{◌≡◌, sym, ap, ◌∙◌}
+use Rattle.std.proofs.Common.{sym, ◌∙◌}
 use Rattle.pe_tool.proofs.Refutes.{net_output_there, net_output_absent}
 use Rattle.pe_tool.proofs.answer.net_output.Goals as goal
 

@@ -1,4 +1,4 @@
-use Rattle.std.proofs.Common.{◌≡◌, sym, ap, ◌∙◌, drop}
+use Rattle.std.proofs.Common.{sym, ap, ◌∙◌, drop}
 use Rattle.pe_tool.specs.Rows.{levels_hold}
 use Rattle.pe_tool.proofs.Searches.{no_supplies}
 use Rattle.pe_tool.proofs.answer.row_holds.Goals as goal

@@ -1,4 +1,4 @@
-use Rattle.std.proofs.Common.{◌≡◌, sym, ap, ◌∙◌}
+use Rattle.std.proofs.Common.{sym, ap, ◌∙◌}
 use Rattle.pe_tool.specs.RtlMeaning.{rtl_value}
 use Rattle.pe_tool.proofs.Refutes.{rtl_output_there, rtl_output_absent}
 use Rattle.pe_tool.proofs.answer.rtl_output.Goals as goal

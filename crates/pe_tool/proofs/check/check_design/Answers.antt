@@ -1,4 +1,4 @@
-use Rattle.std.proofs.Common.{◌≡◌, ◌<◌, ◌≤◌, refl, sym, ap, ◌∙◌, arith}
+use Rattle.std.proofs.Common.{◌≡◌, ap, ◌∙◌, arith}
 use Rattle.pe_tool.specs.Outcome.{input_count, told_count}
 use Rattle.pe_tool.proofs.Exact.{refused_outcome}
 use Rattle.pe_tool.proofs.check.check_design.Goals as goal

@@ -1,4 +1,3 @@
-use Rattle.std.proofs.Common.{◌≡◌, refl, sym, ap, ◌∙◌}
 use Rattle.pe_tool.proofs.Stages.{upf_not_built}
 use Rattle.pe_tool.proofs.check.intent_of.Goals as goal
 

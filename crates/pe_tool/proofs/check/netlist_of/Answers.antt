@@ -1,4 +1,4 @@
-use Rattle.std.proofs.Common.{◌≡◌, refl, sym, ap, ◌∙◌}
+use Rattle.std.proofs.Common.{refl}
 use Rattle.pe_tool.proofs.Stages.{netlist_only}
 use Rattle.pe_tool.proofs.check.netlist_of.Goals as goal
 

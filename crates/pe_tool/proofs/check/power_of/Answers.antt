@@ -1,4 +1,4 @@
-use Rattle.std.proofs.Common.{◌≡◌, sym, ap, ◌∙◌}
+use Rattle.std.proofs.Common.{sym, ◌∙◌}
 use Rattle.pe_tool.proofs.Powers.{no_commands, no_intent, one_power, not_its_top, not_apart}
 use Rattle.pe_tool.proofs.check.power_of.Goals as goal
 

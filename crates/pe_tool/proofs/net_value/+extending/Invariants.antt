@@ -1,4 +1,4 @@
-use Rattle.std.proofs.Common.{ℕ, ◌+◌, ◌*◌, length}
+use Rattle.std.proofs.Common.{◌+◌, ◌*◌, length}
 use Rattle.pe_tool.proofs.net_value.+extending.Given as goal
 
 abbrev pub decreases-extension : goal.decreases-extension

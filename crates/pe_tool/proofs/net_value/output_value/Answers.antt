@@ -1,4 +1,4 @@
-use Rattle.std.proofs.Common.{◌≡◌, refl}
+use Rattle.std.proofs.Common.{refl}
 use Rattle.pe_tool.proofs.net_value.output_value.Goals as goal
 
 pub returns : goal.returns

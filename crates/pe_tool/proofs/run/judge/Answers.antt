@@ -1,4 +1,4 @@
-use Rattle.std.proofs.Common.{◌≡◌, refl, sym, ◌∙◌}
+use Rattle.std.proofs.Common.{refl}
 use Rattle.pe_tool.specs.Run.{reported, refused}
 use Rattle.pe_tool.proofs.run.judge.Goals as goal
 

@@ -1,6 +1,6 @@
-use Rattle.std.proofs.Common.{◌≡◌, refl, sym, ap, ◌∙◌, inl, inr}
+use Rattle.std.proofs.Common.{ap, ◌∙◌, inr}
 use Rattle.pe_outside.specs.Outside.{grown}
-use Rattle.pe_tool.specs.Run.{words_of, bytes_of}
+use Rattle.pe_tool.specs.Run.{words_of}
 use Rattle.pe_tool.proofs.Sayings.{said_accepted, said_mismatch, said_refused, said_unread, said_judged, judged_complete}
 use Rattle.pe_tool.proofs.run.run_alone.Goals as goal
 
@@ -36,5 +36,5 @@ pub returns-in-Ok-write_all-clause-complete : goal.returns-in-Ok-write_all-claus
 returns-in-Ok-write_all-clause-complete g c = λ n t d names_is told_is quiet sound given narrow.
     let written = c.in-Ok-write_all.ensures.whole ∙ ap (grown (g.S.Sink.written c.args.out.now)) (c.as_slice.ensures ∙ c.in-Ok.ensures.says.bytes) in
     let judged = said_judged (words_of c.args.words.now) (g.F.Files.told c.args.files.now) (g.F.Files.faults c.args.files.now) (g.F.Files.faults c.say.new.files) (g.S.Sink.written c.args.out.now) (g.S.Sink.written c.write_all.new.sink)
-        c.in-Ok.ensures.saying c.in-Ok.said.status c.in-Ok.ensures.cause c.in-Ok.ensures.says.status written n t names_is told_is quiet in
+    c.in-Ok.ensures.saying c.in-Ok.said.status c.in-Ok.ensures.cause c.in-Ok.ensures.says.status written n t names_is told_is quiet in
     inr (judged_complete c.one_design.ensures t d judged.0 c.in-Ok.said.status given narrow judged.1 judged.2)

@@ -1,4 +1,4 @@
-use Rattle.std.proofs.Common.{◌≡◌, refl, sym, ◌∙◌, map}
+use Rattle.std.proofs.Common.{refl, sym, map}
 use Rattle.std.specs.Prelude.{string_bytes}
 use Rattle.pe_tool.specs.Reads.{names_view}
 use Rattle.pe_tool.specs.Run.{unread}
