@@ -47,10 +47,10 @@ fn form_of(grammar: &[Entry], form: u16) -> Form
 }
 
 #[tactic(auto, using(std::proofs::lemmas::Nat::Bits::shr_and_one))]
-fn contains(set: u64, kind: u16) -> bool
+fn contains(set: u128, kind: u16) -> bool
     ensures { result ≡ has set kind }
 {
-    kind < 64 && (set >> kind) & 1 == 1
+    kind < 128 && (set >> kind) & 1 == 1
 }
 
 fn starts(grammar: &[Entry], form: u16, tokens: &[Token]) -> bool
@@ -83,7 +83,7 @@ fn next_is(kind: u16, tokens: &[Token]) -> Option<(Token, &[Token])>
 }
 
 /// The next token and the rest, if it is of the set.
-fn next_in(set: u64, tokens: &[Token]) -> Option<(Token, &[Token])>
+fn next_in(set: u128, tokens: &[Token]) -> Option<(Token, &[Token])>
     ensures { MatchOption result ((k : ℕ) → front tokens.now ≡ Some k → has set k ≡ true → ⊥) (λ r. (has set r.0.kind ≡ true) × (tokens.now ≡ r.0 ∷ r.1.now)) }
 {
     match tokens.split_first() {
@@ -186,7 +186,7 @@ fn next_start(grammar: &[Entry], form: u16, tokens: &[Token]) -> Option<u16>
     }
 }
 
-fn is_taken(set: u64, used: &[u16], kind: u16) -> bool
+fn is_taken(set: u128, used: &[u16], kind: u16) -> bool
     ensures { result ≡ taken set used.now kind }
 {
     contains(set, kind) && used.contains(&kind)
@@ -198,7 +198,7 @@ fn read_once<'a>(
     grammar: &[Entry],
     form: u16,
     each: u16,
-    set: u64,
+    set: u128,
     tokens: &'a [Token],
 ) -> Result<(Tree, &'a [Token]), Stop>
     requires grammar { IsDeterministic grammar.now }

@@ -15,7 +15,7 @@ pub enum Tree {
     Right(Boxed<Tree>),
     Repeat(Items<Tree>),
     Present(Token, Boxed<Tree>),
-    Absent(u64),
+    Absent(u128),
     Once(Items<Tree>),
 }
 
@@ -69,7 +69,7 @@ pub fn make_present(alloc: Global, token: Token, tree: Tree) -> Result<Tree, All
 }
 
 #[tactic(auto, using(crate::proofs::Trees::layers))]
-pub fn make_absent(set: u64) -> Tree
+pub fn make_absent(set: u128) -> Tree
     ensures { derivation result ≡ absent set }
 {
     Tree::Absent(set)
