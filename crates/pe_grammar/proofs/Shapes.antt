@@ -3,10 +3,10 @@ use Rattle.std.proofs.Common.{◌≡◌, ℕ, zero, suc, ◌<◌, ◌≤◌, ari
 use Rattle.std.specs.Prelude.{map, slice_get, max, ◌+◌}
 use denote.Param.Weighed.{most}
 use Rattle.pe_grammar.specs.declared.tree.Tree.TheViews.{sized-Repeat}
-use Rattle.pe_grammar.specs.declared.entry.Token.{Token}
-use Rattle.pe_grammar.specs.declared.entry.Entry.{Entry}
-use Rattle.pe_grammar.specs.declared.entry.Form.TheVariants.{Terminal, Sequence, Choice, Clause}
-use Rattle.pe_grammar.specs.declared.entry.Form.TheVariants as form
+use Rattle.pe_grammar.specs.declared.terminal.Token.{Token}
+use Rattle.pe_grammar.specs.declared.form.Entry.{Entry}
+use Rattle.pe_grammar.specs.declared.form.Form.TheVariants.{Terminal, Sequence, Choice, Clause}
+use Rattle.pe_grammar.specs.declared.form.Form.TheVariants as form
 use Rattle.pe_grammar.specs.declared.tree.Tree.{Tree, Tree-F, out-Tree, roll-Tree, roll-out-Tree, size-Tree}
 use Rattle.pe_grammar.specs.declared.tree.Tree.TheVariants.{Leaf, Empty, Pair, Left, Right, Repeat, Present, Absent, Once, rolls-Once, rolls-Present, rolls-Absent, rolls-Leaf, rolls-Empty, rolls-Pair, rolls-Left, rolls-Right, rolls-Repeat}
 use Rattle.pe_grammar.specs.declared.tree.Tree.TheOpen as layer

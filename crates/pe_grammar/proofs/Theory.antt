@@ -1,19 +1,19 @@
 -- One token of look-ahead decides, in a grammar that passes the test.
-use Rattle.std.proofs.Common.{◌≡◌, ℕ, zero, suc, ◌+◌, ◌<◌, ◌≤◌, Bool, true, false, not, ◌&&◌, ◌||◌, List, [], ◌∷◌, ◌++◌, length, Some, None, Option, refl, sym, ap, ◌∙◌, subst, inl, inr, ◌⊎◌, append_assoc, arith}
+use Rattle.std.proofs.Common.{◌≡◌, ℕ, zero, suc, ◌+◌, ◌<◌, ◌≤◌, Bool, true, false, not, ◌&&◌, ◌||◌, List, [], ◌∷◌, ◌++◌, length, Some, None, Option, refl, sym, ap, ◌∙◌, subst, inl, inr, ◌⊎◌, append_assoc, arith, take, ◌-◌, add-one}
 use Rattle.std.proofs.lemmas.List.{append_cancel_left, append-nil, length-append}
 use Rattle.std.specs.List.{cons_option}
-use Rattle.std.proofs.Common.{take, ◌-◌, add-one}
 use Rattle.std.proofs.lemmas.Bool.{cases_Bool}
 use Rattle.std.specs.Prelude.{slice_get}
-use Rattle.pe_grammar.specs.declared.entry.Token.{Token}
-use Rattle.pe_grammar.specs.declared.entry.Entry.{Entry}
-use Rattle.pe_grammar.specs.declared.entry.Form.{Form}
-use Rattle.pe_grammar.specs.declared.entry.Form.TheVariants.{Terminal, Empty, Sequence, Choice, Repeat, Clause, Once}
+use Rattle.pe_grammar.specs.declared.terminal.Token.{Token}
+use Rattle.pe_grammar.specs.declared.form.Entry.{Entry}
+use Rattle.pe_grammar.specs.declared.form.Form.{Form}
+use Rattle.pe_grammar.specs.declared.form.Form.TheVariants.{Terminal, Empty, Sequence, Choice, Repeat, Clause, Once}
 use Rattle.pe_grammar.specs.Derivation.{Derivation, leaf, nothing, pair, left, right, done, more, present, absent, once, heads, IsFresh, has, taken, text, front, IsNear, LeavesOut}
-use Rattle.pe_grammar.specs.Grammar.{Derives, Spells, IsViable, IsDeterministic, IsSequence, IsChoice, IsRepeat, IsClause, IsOnce, form_at, form_in, nullable, starts, goes_on, opened, rank, height}
-use Rattle.pe_grammar.specs.Reading.{Stops, Reads, Refuses, IsRefused, IsStop, ReadsOnce, RefusesOnce, IsRefusedOnce, IsStopOnce, IsFault, starts_at, goes_left}
-use Rattle.pe_grammar.specs.declared.read.Stop.{Stop}
-use Rattle.pe_grammar.specs.declared.read.Stop.TheVariants.{Memory, Left}
+use Rattle.pe_grammar.specs.Grammar.{Derives, Spells, IsViable, form_at, form_in, IsFault}
+use Rattle.pe_grammar.specs.Table.{IsDeterministic, IsSequence, IsChoice, IsRepeat, IsClause, IsOnce, nullable, starts, goes_on, opened, rank, height}
+use Rattle.pe_grammar.specs.Reading.{Stops, Reads, Refuses, IsRefused, IsStop, ReadsOnce, RefusesOnce, IsRefusedOnce, IsStopOnce, starts_at, goes_left}
+use Rattle.pe_grammar.specs.declared.failure.Stop.{Stop}
+use Rattle.pe_grammar.specs.declared.failure.Stop.TheVariants.{Memory, Left}
 
 left_nil : (xs ys : List Token) → xs ++ ys ≡ [] → xs ≡ []
 left_nil [] ys e = refl

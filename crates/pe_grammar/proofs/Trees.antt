@@ -1,7 +1,7 @@
 -- What derivation a tree is, by its variant.
 use Rattle.std.proofs.Common.{◌≡◌, ℕ, List, [], ◌∷◌, ◌++◌, sym, refl, ap, ◌∙◌}
 use Rattle.std.specs.Prelude.{map}
-use Rattle.pe_grammar.specs.declared.entry.Token.{Token}
+use Rattle.pe_grammar.specs.declared.terminal.Token.{Token}
 use Rattle.pe_grammar.specs.declared.tree.Tree.{Tree, Tree-F, fold-Tree, fold-roll-Tree}
 use Rattle.pe_grammar.specs.declared.tree.Tree.TheVariants.{Leaf, Empty, Pair, Left, Right, Repeat, Present, Absent, Once, rolls-Once, rolls-Present, rolls-Absent, rolls-Leaf, rolls-Empty, rolls-Pair, rolls-Left, rolls-Right, rolls-Repeat}
 use Rattle.pe_grammar.specs.declared.tree.Tree.TheOpen as layer

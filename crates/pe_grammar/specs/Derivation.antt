@@ -2,7 +2,7 @@
 use Rattle.std.specs.Prelude.{◌≡◌, ℕ, List, [], ◌∷◌, ◌++◌, ◌⊎◌, Option, Some, None, Bool, true, eqb, ◌&&◌}
 use Rattle.std.specs.List.{cons_option, list_any}
 use Rattle.std.specs.Int.{bit_at}
-use Rattle.pe_grammar.specs.declared.entry.Token.{Token}
+use Rattle.pe_grammar.specs.declared.terminal.Token.{Token}
 use Rattle.pe_grammar.specs.declared.tree.Tree.{Tree, Tree-F, fold-Tree}
 use Rattle.pe_grammar.specs.declared.tree.Tree.TheOpen as layer
 

@@ -1,14 +1,12 @@
 -- What a reader answers: a derivation and the rest, or where the text can't go on.
 use Rattle.std.specs.Prelude.{◌≡◌, ℕ, Bool, true, false, not, ◌&&◌, ◌||◌, List, [], ◌∷◌, ◌++◌, length, Option, Some, None, Result, Ok, Err, ◌+◌, ◌≤◌, take, ◌<◌}
-use Rattle.pe_grammar.specs.declared.entry.Token.{Token}
-use Rattle.pe_grammar.specs.declared.entry.Entry.{Entry}
-use Rattle.pe_grammar.specs.declared.read.Stop.{Stop}
-use Rattle.pe_grammar.specs.declared.read.Stop.TheVariants.{Memory, Left}
-use Rattle.pe_grammar.specs.declared.read.Failure.{Failure}
-use Rattle.pe_grammar.specs.declared.read.Failure.TheVariants as failure
-use Rattle.pe_grammar.specs.declared.tree.Tree.{Tree}
+use Rattle.pe_grammar.specs.declared.terminal.Token.{Token}
+use Rattle.pe_grammar.specs.declared.form.Entry.{Entry}
+use Rattle.pe_grammar.specs.declared.failure.Stop.{Stop}
+use Rattle.pe_grammar.specs.declared.failure.Stop.TheVariants.{Memory, Left}
 use Rattle.pe_grammar.specs.Derivation.{Derivation, derivation, text, heads, IsFresh, front, IsNear}
-use Rattle.pe_grammar.specs.Grammar.{Derives, Spells, IsViable, nullable, starts, goes_on}
+use Rattle.pe_grammar.specs.Grammar.{Derives, Spells, IsViable}
+use Rattle.pe_grammar.specs.Table.{nullable, starts, goes_on}
 
 -- a text of n that could end here can't go on
 abbrev pub Stops : List Entry → ℕ → List Token → Type 0
@@ -45,19 +43,6 @@ starts_at g n (t ∷ ts) = starts g n t.kind
 -- whether a choice of a and b is a
 abbrev pub goes_left : List Entry → ℕ → ℕ → List Token → Bool
 goes_left g a b tokens = starts_at g a tokens || (nullable g a && not (starts_at g b tokens))
-
--- the answer is d, unless memory ran out
-abbrev pub IsRead : Derivation → Result Tree Failure → Type 0
-IsRead d (Ok t) = derivation t ≡ d
-IsRead d (Err failure.Memory) = Unit {0}
-IsRead d (Err (failure.Syntax at)) = ⊥
-
--- Some text begins with the tokens before at. With the token at at none does, or there is none and what is there is no text.
-pub record IsFault (g : List Entry) (n : ℕ) (tokens : List Token) (at : ℕ) : Type 0 where
-  pub within : at ≤ length tokens
-  pub viable : IsViable g n (take at tokens)
-  pub not_further : at < length tokens → IsViable g n (take (at + 1) tokens) → ⊥
-  pub no_text : (d : Derivation) → Spells g n tokens d → ⊥
 
 -- the same, of a repeat before which some heads were used
 pub record ReadsOnce (g : List Entry) (n set : ℕ) (used : List ℕ) (tokens : List Token) (d : Derivation) (rest : List Token) : Type 0 where

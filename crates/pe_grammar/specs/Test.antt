@@ -1,10 +1,10 @@
 -- The test of a grammar and its table, which the checker computes.
 use Rattle.std.specs.Prelude.{ℕ, Bool, true, false, cond, not, ◌&&◌, ltb, eqb, bit_and, length, List, [], ◌∷◌, slice_get, Option, Some, None}
 use Rattle.std.specs.List.{list_all}
-use Rattle.pe_grammar.specs.declared.entry.Entry.{Entry}
-use Rattle.pe_grammar.specs.declared.entry.Form.{Form}
-use Rattle.pe_grammar.specs.declared.entry.Form.TheVariants.{Terminal, Empty, Sequence, Choice, Repeat, Clause, Once}
-use Rattle.pe_grammar.specs.Grammar.{has}
+use Rattle.pe_grammar.specs.declared.form.Entry.{Entry}
+use Rattle.pe_grammar.specs.declared.form.Form.{Form}
+use Rattle.pe_grammar.specs.declared.form.Form.TheVariants.{Terminal, Empty, Sequence, Choice, Repeat, Clause, Once}
+use Rattle.pe_grammar.specs.Derivation.{has}
 
 abbrev pub within : ℕ → ℕ → Bool
 within x y = eqb (bit_and x y) x

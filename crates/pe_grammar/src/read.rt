@@ -1,96 +1,25 @@
-ghost use Rattle.std.specs.Prelude.{◌≡◌, ◌∷◌, [], true, false, ◌<◌, ◌≤◌, ◌+◌, ◌++◌, ℕ, Some, Err, length, take, List, MatchResult, MatchOption, IfOk, IsTrue};
-ghost use Rattle.pe_grammar.specs.Derivation.{Derivation, derivation, leaf, once, taken, front};
-ghost use Rattle.pe_grammar.specs.declared.read.Stop.TheVariants.{Left};
-ghost use Rattle.pe_grammar.specs.Grammar.{has, IsDeterministic, Spells, IsViable, form_at};
-ghost use Rattle.pe_grammar.specs.Test.{passes};
-ghost use Rattle.pe_grammar.specs.Reading.{Reads, IsStop, ReadsOnce, IsStopOnce, IsRead, IsFault, starts_at, goes_left as is_left};
-ghost use Rattle.pe_grammar.specs.declared.read.Failure.TheVariants.{Syntax};
-ghost use Rattle.pe_grammar.specs.declared.entry.Form.TheVariants.{Repeat};
+//! Reads tokens by a grammar.
 
-use crate::entry::{Entry, Form, Token};
+ghost use Rattle.std.specs.Prelude.{◌≡◌, ◌∷◌, [], ◌<◌, ℕ, Some, Err, length, List, MatchResult, IfOk, IsTrue};
+ghost use Rattle.pe_grammar.specs.Derivation.{Derivation, derivation, leaf, once, front};
+ghost use Rattle.pe_grammar.specs.declared.failure.Stop.TheVariants.{Left};
+ghost use Rattle.pe_grammar.specs.declared.failure.Failure.TheVariants.{Syntax};
+ghost use Rattle.pe_grammar.specs.declared.form.Form.TheVariants.{Repeat};
+ghost use Rattle.pe_grammar.specs.Grammar.{Spells, form_at, IsRead, IsFault};
+ghost use Rattle.pe_grammar.specs.Table.{IsDeterministic};
+ghost use Rattle.pe_grammar.specs.Test.{passes};
+ghost use Rattle.pe_grammar.specs.Reading.{Reads, IsStop, ReadsOnce, IsStopOnce};
+
+use crate::failure::{Failure, Stop};
+use crate::form::{Entry, Form};
+use crate::look::{form_of, goes_left, is_taken, next_in, next_is, next_start, starts};
+use crate::terminal::Token;
 use crate::tree::{
     Tree, make_absent, make_empty, make_leaf, make_left, make_once, make_pair, make_present,
     make_repeat, make_right,
 };
 use sqlite_items::Items;
 use std::alloc::{AllocError, Global};
-
-#[derive(Clone, Copy, Debug, PartialEq, Eq)]
-pub enum Failure {
-    Memory,
-    /// The first token at which the text can't go on, by its place in the text, or the text's length.
-    Syntax(usize),
-}
-
-/// Where a form can't be read: this many tokens before the end.
-#[derive(Clone, Copy)]
-enum Stop {
-    Memory,
-    Left(usize),
-}
-
-impl From<AllocError> for Stop {
-    ghost use Rattle.pe_grammar.specs.declared.read.Stop.TheVariants.{Memory};
-
-    ghost from_gives = { λ _ e. e ≡ Memory };
-
-    fn from(_: AllocError) -> Stop {
-        Stop::Memory
-    }
-}
-
-fn form_of(grammar: &[Entry], form: u16) -> Form
-    requires { form < length grammar.now }
-    ensures { form_at grammar.now form ≡ Some result }
-{
-    grammar[form as usize].form
-}
-
-#[tactic(auto, using(std::proofs::lemmas::Nat::Bits::shr_and_one))]
-fn contains(set: u128, kind: u16) -> bool
-    ensures { result ≡ has set kind }
-{
-    kind < 128 && (set >> kind) & 1 == 1
-}
-
-fn starts(grammar: &[Entry], form: u16, tokens: &[Token]) -> bool
-    requires { form < length grammar.now }
-    ensures { result ≡ starts_at grammar.now form tokens.now }
-{
-    match tokens {
-        [] => false,
-        [next, ..] => contains(grammar[form as usize].first, next.kind),
-    }
-}
-
-fn goes_left(grammar: &[Entry], left: u16, right: u16, tokens: &[Token]) -> bool
-    requires left { left < length grammar.now }
-    requires right { right < length grammar.now }
-    ensures { result ≡ is_left grammar.now left right tokens.now }
-{
-    starts(grammar, left, tokens)
-        || grammar[left as usize].nullable && !starts(grammar, right, tokens)
-}
-
-/// The next token and the rest, if it is of the kind.
-fn next_is(kind: u16, tokens: &[Token]) -> Option<(Token, &[Token])>
-    ensures { MatchOption result (front tokens.now ≡ Some kind → ⊥) (λ r. (r.0.kind ≡ kind) × (tokens.now ≡ r.0 ∷ r.1.now)) }
-{
-    match tokens.split_first() {
-        Some((token, rest)) if token.kind == kind => Some((*token, rest)),
-        _ => None,
-    }
-}
-
-/// The next token and the rest, if it is of the set.
-fn next_in(set: u128, tokens: &[Token]) -> Option<(Token, &[Token])>
-    ensures { MatchOption result ((k : ℕ) → front tokens.now ≡ Some k → has set k ≡ true → ⊥) (λ r. (has set r.0.kind ≡ true) × (tokens.now ≡ r.0 ∷ r.1.now)) }
-{
-    match tokens.split_first() {
-        Some((token, rest)) if contains(set, token.kind) => Some((*token, rest)),
-        _ => None,
-    }
-}
 
 /// Reads one token of the kind.
 fn terminal(kind: u16, tokens: &[Token]) -> Result<(Tree, &[Token]), Stop>
@@ -172,24 +101,6 @@ fn repeat<'a>(
         left = rest;
     }
     Ok((make_repeat(items), left))
-}
-
-/// The next terminal, if the form may begin with it.
-fn next_start(grammar: &[Entry], form: u16, tokens: &[Token]) -> Option<u16>
-    requires { form < length grammar.now }
-    ensures { MatchOption result (starts_at grammar.now form tokens.now ≡ false)
-        (λ k. (front tokens.now ≡ Some k) × (starts_at grammar.now form tokens.now ≡ true)) }
-{
-    match tokens.split_first() {
-        Some((token, _)) if contains(grammar[form as usize].first, token.kind) => Some(token.kind),
-        _ => None,
-    }
-}
-
-fn is_taken(set: u128, used: &[u16], kind: u16) -> bool
-    ensures { result ≡ taken set used.now kind }
-{
-    contains(set, kind) && used.contains(&kind)
 }
 
 #[cycle(reading)]

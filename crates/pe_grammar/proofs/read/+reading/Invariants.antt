@@ -1,8 +1,8 @@
 use Rattle.std.proofs.Common.{◌≡◌, ◌<◌, ◌≤◌, ◌+◌, ◌*◌, ℕ, length, List, []}
 use Rattle.std.specs.Prelude.{map}
-use Rattle.pe_grammar.specs.declared.entry.Token.{Token}
+use Rattle.pe_grammar.specs.declared.terminal.Token.{Token}
 use Rattle.pe_grammar.specs.Derivation.{Derivation, derivation, repeated}
-use Rattle.pe_grammar.specs.Grammar.{rank}
+use Rattle.pe_grammar.specs.Table.{rank}
 use Rattle.pe_grammar.specs.Reading.{Reads, IsRefused, ReadsOnce, IsRefusedOnce}
 use Rattle.pe_grammar.proofs.read.+reading.Given as goal
 

@@ -1,5 +1,6 @@
 use Rattle.std.proofs.Common.{◌≡◌, ◌<◌, ◌≤◌, ◌+◌, ◌-◌, ℕ, length, arith, subst, sym}
-use Rattle.pe_grammar.specs.Reading.{IsFault, IsRefused}
+use Rattle.pe_grammar.specs.Reading.{IsRefused}
+use Rattle.pe_grammar.specs.Grammar.{IsFault}
 use Rattle.pe_grammar.proofs.Theory.{longer_fault, refused_fault}
 use Rattle.pe_grammar.proofs.Test.{deterministic}
 use Rattle.pe_grammar.proofs.read.parse.Goals as goal

@@ -1,8 +1,8 @@
 -- The parts of a form.
 use Rattle.std.specs.Prelude.{◌≡◌, ℕ, Option, Some, None, List}
-use Rattle.pe_grammar.specs.declared.entry.Entry.{Entry}
-use Rattle.pe_grammar.specs.declared.entry.Form.{Form}
-use Rattle.pe_grammar.specs.declared.entry.Form.TheVariants.{Terminal, Empty, Sequence, Choice, Repeat, Clause, Once}
+use Rattle.pe_grammar.specs.declared.form.Entry.{Entry}
+use Rattle.pe_grammar.specs.declared.form.Form.{Form}
+use Rattle.pe_grammar.specs.declared.form.Form.TheVariants.{Terminal, Empty, Sequence, Choice, Repeat, Clause, Once}
 use Rattle.pe_grammar.specs.Grammar.{form_at}
 
 abbrev pub first_in : Option Form → ℕ

@@ -1,7 +1,7 @@
 use Rattle.std.proofs.Common.{inl, inr}
-use Rattle.pe_grammar.specs.Shape.{first_at, second_at}
+use Rattle.pe_grammar.specs.Places.{first_at, second_at}
 use Rattle.pe_grammar.proofs.Shapes.{choice_tree, left_is, right_is, left_derives, right_derives}
-use Rattle.pe_grammar.proofs.shape.side.Goals as goal
+use Rattle.pe_grammar.proofs.apart.side.Goals as goal
 
 pub unreachable-requires : goal.unreachable-requires
 unreachable-requires c =

@@ -1,6 +1,6 @@
-use Rattle.pe_grammar.specs.Shape.{first_at}
+use Rattle.pe_grammar.specs.Places.{first_at}
 use Rattle.pe_grammar.proofs.Shapes.{repeat_tree, repeat_is, element_smaller, items_derive}
-use Rattle.pe_grammar.proofs.shape.items.Goals as goal
+use Rattle.pe_grammar.proofs.apart.items.Goals as goal
 
 pub unreachable-requires : goal.unreachable-requires
 unreachable-requires c =

@@ -1,6 +1,6 @@
-use Rattle.pe_grammar.specs.Shape.{second_at}
+use Rattle.pe_grammar.specs.Places.{second_at}
 use Rattle.pe_grammar.proofs.Shapes.{terminal_tree, leaf_is}
-use Rattle.pe_grammar.proofs.shape.token.Goals as goal
+use Rattle.pe_grammar.proofs.apart.token.Goals as goal
 
 pub unreachable-requires : goal.unreachable-requires
 unreachable-requires c =

@@ -2,10 +2,11 @@ ghost use Rattle.std.specs.Prelude.{◌≡◌, ◌<◌, MatchOption, MatchResult
 ghost use Rattle.std.specs.List.{All};
 ghost use Rattle.pe_grammar.specs.Derivation.{derivation, pair, left, right, leaf, repeated, done, present, absent};
 ghost use Rattle.pe_grammar.specs.Grammar.{Derives};
-ghost use Rattle.pe_grammar.specs.Shape.{first_at, second_at, IsSequenceAt, IsChoiceAt, IsRepeatAt, IsClauseAt, IsTerminalAt};
+ghost use Rattle.pe_grammar.specs.Places.{first_at, second_at, IsSequenceAt, IsChoiceAt, IsRepeatAt, IsClauseAt, IsTerminalAt};
 ghost use Rattle.pe_grammar.specs.declared.tree.Tree.{Tree, size-Tree};
 
-use crate::entry::{Entry, Token};
+use crate::form::Entry;
+use crate::terminal::Token;
 use crate::tree::Tree;
 
 /// The two parts of a sequence.

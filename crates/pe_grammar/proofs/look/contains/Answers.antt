@@ -2,7 +2,7 @@ use Rattle.std.proofs.Common.{◌≡◌, ◌<◌, ◌≤◌, ◌^◌, arith, ref
 use Rattle.std.specs.Int.{bit_at}
 use Rattle.std.proofs.lemmas.Nat.Bits.{bit_at_above}
 use Rattle.std.proofs.lemmas.Bool.{le-ltb}
-use Rattle.pe_grammar.proofs.read.contains.Goals as goal
+use Rattle.pe_grammar.proofs.look.contains.Goals as goal
 
 pub returns-else-kind-lt128 : goal.returns-else-kind-lt128
 returns-else-kind-lt128 c =

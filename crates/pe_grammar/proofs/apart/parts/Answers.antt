@@ -1,7 +1,7 @@
 use Rattle.pe_grammar.specs.Derivation.{derivation}
-use Rattle.pe_grammar.specs.Shape.{first_at, second_at}
+use Rattle.pe_grammar.specs.Places.{first_at, second_at}
 use Rattle.pe_grammar.proofs.Shapes.{sequence_tree, pair_is, pair_derives}
-use Rattle.pe_grammar.proofs.shape.parts.Goals as goal
+use Rattle.pe_grammar.proofs.apart.parts.Goals as goal
 
 pub unreachable-requires : goal.unreachable-requires
 unreachable-requires c =

@@ -1,0 +1,48 @@
+-- A grammar as it is written on paper, and what its derivations are.
+use Rattle.std.specs.Prelude.{◌≡◌, ℕ, List, [], ◌++◌, Option, Some, slice_get, true}
+use Rattle.pe_grammar.specs.declared.terminal.Token.{Token}
+use Rattle.pe_grammar.specs.Derivation.{Derivation, leaf, nothing, pair, left, right, done, more, present, absent, once, text, heads, IsNear, IsFresh, has}
+
+pub data Written : Type 0 where
+  word : ℕ → Written
+  rule : ℕ → Written
+  empty : Written
+  both : Written → Written → Written
+  either : Written → Written → Written
+  many : Written → Written
+  -- a word of the set and what follows it, or nothing where none of the set follows
+  nearest : ℕ → Written → Written
+  -- many, of which no two begin with one word of the set
+  each_once : ℕ → Written → Written
+
+infixr 20 ◌·◌
+abbrev pub ◌·◌ : Written → Written → Written
+a · b = both a b
+
+infixr 15 ◌∣◌
+abbrev pub ◌∣◌ : Written → Written → Written
+a ∣ b = either a b
+
+-- the body of a rule
+abbrev pub body : List Written → Written → Option Written
+body rs (rule r) = slice_get rs r
+body rs (word k) = Some (word k)
+body rs empty = Some empty
+body rs (both a b) = Some (both a b)
+body rs (either a b) = Some (either a b)
+body rs (many a) = Some (many a)
+body rs (nearest k a) = Some (nearest k a)
+body rs (each_once set a) = Some (each_once set a)
+
+-- d is a derivation of e
+abbrev pub IsOf : List Written → Written → Derivation → Type 0
+IsOf rs e (leaf t) = body rs e ≡ Some (word t.kind)
+IsOf rs e nothing = body rs e ≡ Some empty
+IsOf rs e (pair c d) = (a : Written) × (b : Written) × (body rs e ≡ Some (both a b)) × IsOf rs a c × IsOf rs b d × IsNear c (text d)
+IsOf rs e (left c) = (a : Written) × (b : Written) × (body rs e ≡ Some (either a b)) × IsOf rs a c
+IsOf rs e (right c) = (a : Written) × (b : Written) × (body rs e ≡ Some (either a b)) × IsOf rs b c
+IsOf rs e done = (a : Written) × (body rs e ≡ Some (many a))
+IsOf rs e (more c d) = (a : Written) × (body rs e ≡ Some (many a)) × IsOf rs a c × IsOf rs e d × IsNear c (text d)
+IsOf rs e (present t c) = (set : ℕ) × (a : Written) × (body rs e ≡ Some (nearest set a)) × (has set t.kind ≡ true) × IsOf rs a c
+IsOf rs e (absent k) = (a : Written) × (body rs e ≡ Some (nearest k a))
+IsOf rs e (once c) = (set : ℕ) × (a : Written) × (body rs e ≡ Some (each_once set a)) × IsOf rs (many a) c × IsFresh set [] (heads c)
