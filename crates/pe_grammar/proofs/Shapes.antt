@@ -2,7 +2,7 @@
 use Rattle.std.proofs.Common.{◌≡◌, ℕ, zero, suc, ◌<◌, ◌≤◌, arith, List, [], ◌∷◌, Some, None, Option, sym, refl, ap, ◌∙◌, subst, inl, inr, ◌⊎◌}
 use Rattle.std.specs.Prelude.{map, slice_get, max, ◌+◌}
 use denote.Param.Weighed.{most}
-use Rattle.pe_grammar.specs.declared.tree.Tree.TheViews.{sized-Repeat}
+use Rattle.pe_grammar.specs.declared.tree.Tree.TheViews.{sized-Once, sized-Repeat}
 use Rattle.pe_grammar.specs.declared.terminal.Token.{Token}
 use Rattle.pe_grammar.specs.declared.form.Entry.{Entry}
 use Rattle.pe_grammar.specs.declared.form.Form.TheVariants.{Terminal, Sequence, Choice, Clause}
@@ -53,7 +53,7 @@ FormOf g n t =
     ⊎ (((x : Tree) × (a : ℕ) × (b : ℕ) × (t ≡ Right x) × (form_at g n ≡ Some (Choice a b)))
     ⊎ (((k : Token) × (x : Tree) × (set : ℕ) × (a : ℕ) × (t ≡ Present k x) × (form_at g n ≡ Some (Clause set a)))
     ⊎ (((w : ℕ) × (a : ℕ) × (t ≡ Absent w) × (form_at g n ≡ Some (Clause w a)))
-    ⊎ (((form_at g n ≡ Some form.Empty) ⊎ ((r : ℕ) × (set : ℕ) × (form_at g n ≡ Some (form.Once r set)))) ⊎ ((a : ℕ) × (xs : List Tree) × (t ≡ Repeat xs) × (form_at g n ≡ Some (form.Repeat a)))))))))
+    ⊎ (((form_at g n ≡ Some form.Empty) ⊎ ((r : ℕ) × (set : ℕ) × (xs : List Tree) × (t ≡ Once xs) × (form_at g n ≡ Some (form.Once r set)))) ⊎ ((a : ℕ) × (xs : List Tree) × (t ≡ Repeat xs) × (form_at g n ≡ Some (form.Repeat a)))))))))
 
 repeat_form : (g : List Entry) (n : ℕ) (ds : List Derivation) → Derives g n (repeated ds done) → (a : ℕ) × (form_at g n ≡ Some (form.Repeat a))
 repeat_form g n [] h = h
@@ -76,7 +76,7 @@ form_of_tree g n t h = elim (cases t) [
               | inl v ↦ let d = along g n t (Present v.0 v.1) (present v.0 (derivation v.1)) v.2 (derivation-Present v.0 v.1) h in inr (inr (inr (inr (inl (v.0, v.1, d.0, d.1, v.2, d.2)))))
               | inr w ↦ elim w [
                 | inl v ↦ let d = along g n t (Absent v.0) (absent v.0) v.1 (derivation-Absent v.0) h in inr (inr (inr (inr (inr (inl (v.0, d.0, v.1, d.1))))))
-                | inr v ↦ let d = along g n t (Once v.0) (once (repeated (map derivation v.0) done)) v.1 (derivation-Once v.0) h in inr (inr (inr (inr (inr (inr (inl (inr (d.0, d.1, d.2))))))))
+                | inr v ↦ let d = along g n t (Once v.0) (once (repeated (map derivation v.0) done)) v.1 (derivation-Once v.0) h in inr (inr (inr (inr (inr (inr (inl (inr (d.0, d.1, v.0, v.1, d.2))))))))
               ]
             ]
           ]
@@ -99,7 +99,7 @@ sequence_tree g n a b t f h = elim (form_of_tree g n t h) [
           | inl v ↦ let p = v.5 in cc
           | inr w ↦ elim w [
             | inl v ↦ let p = v.3 in cc
-            | inr w ↦ elim w [ inl v ↦ elim v [ inl u ↦ cc | inr u ↦ let p = u.2 in cc ] | inr v ↦ let p = v.3 in cc ]
+            | inr w ↦ elim w [ inl v ↦ elim v [ inl u ↦ cc | inr u ↦ let p = u.4 in cc ] | inr v ↦ let p = v.3 in cc ]
           ]
         ]
       ]
@@ -120,7 +120,7 @@ choice_tree g n a b t f h = elim (form_of_tree g n t h) [
           | inl v ↦ let p = v.5 in cc
           | inr w ↦ elim w [
             | inl v ↦ let p = v.3 in cc
-            | inr w ↦ elim w [ inl v ↦ elim v [ inl u ↦ cc | inr u ↦ let p = u.2 in cc ] | inr v ↦ let p = v.3 in cc ]
+            | inr w ↦ elim w [ inl v ↦ elim v [ inl u ↦ cc | inr u ↦ let p = u.4 in cc ] | inr v ↦ let p = v.3 in cc ]
           ]
         ]
       ]
@@ -141,7 +141,7 @@ clause_tree g n u a t f h = elim (form_of_tree g n t h) [
           | inl v ↦ inl (v.0, v.1, v.4)
           | inr w ↦ elim w [
             | inl v ↦ let p = v.3 in let q : v.0 ≡ u = cc in inr (v.2 ∙ ap Absent q)
-            | inr w ↦ elim w [ inl v ↦ elim v [ inl u ↦ cc | inr u ↦ let p = u.2 in cc ] | inr v ↦ let p = v.3 in cc ]
+            | inr w ↦ elim w [ inl v ↦ elim v [ inl u ↦ cc | inr u ↦ let p = u.4 in cc ] | inr v ↦ let p = v.3 in cc ]
           ]
         ]
       ]
@@ -162,7 +162,7 @@ terminal_tree g n k t f h = elim (form_of_tree g n t h) [
           | inl v ↦ let p = v.5 in cc
           | inr w ↦ elim w [
             | inl v ↦ let p = v.3 in cc
-            | inr w ↦ elim w [ inl v ↦ elim v [ inl u ↦ cc | inr u ↦ let p = u.2 in cc ] | inr v ↦ let p = v.3 in cc ]
+            | inr w ↦ elim w [ inl v ↦ elim v [ inl u ↦ cc | inr u ↦ let p = u.4 in cc ] | inr v ↦ let p = v.3 in cc ]
           ]
         ]
       ]
@@ -224,7 +224,28 @@ repeat_tree g n a t f h = elim (form_of_tree g n t h) [
           | inl v ↦ let p = v.5 in cc
           | inr w ↦ elim w [
             | inl v ↦ let p = v.3 in cc
-            | inr w ↦ elim w [ inl v ↦ elim v [ inl u ↦ cc | inr u ↦ let p = u.2 in cc ] | inr v ↦ (v.1, v.2) ]
+            | inr w ↦ elim w [ inl v ↦ elim v [ inl u ↦ cc | inr u ↦ let p = u.4 in cc ] | inr v ↦ (v.1, v.2) ]
+          ]
+        ]
+      ]
+    ]
+  ]
+]
+
+pub once_tree : (g : List Entry) (n r set : ℕ) (t : Tree) → form_at g n ≡ Some (form.Once r set) → Derives g n (derivation t) → (xs : List Tree) × (t ≡ Once xs)
+once_tree g n r set t f h = elim (form_of_tree g n t h) [
+  | inl v ↦ let p = v.2 in cc
+  | inr w ↦ elim w [
+    | inl v ↦ let p = v.5 in cc
+    | inr w ↦ elim w [
+      | inl v ↦ let p = v.4 in cc
+      | inr w ↦ elim w [
+        | inl v ↦ let p = v.4 in cc
+        | inr w ↦ elim w [
+          | inl v ↦ let p = v.5 in cc
+          | inr w ↦ elim w [
+            | inl v ↦ let p = v.3 in cc
+            | inr w ↦ elim w [ inl v ↦ elim v [ inl u ↦ cc | inr u ↦ (u.2, u.3) ] | inr v ↦ let p = v.3 in cc ]
           ]
         ]
       ]
@@ -258,3 +279,20 @@ repeated_each g n a f (t ∷ ts) h (suc i) u e = repeated_each g n a f ts h.3 i 
 
 pub items_derive : (g : List Entry) (n a : ℕ) (t : Tree) (us : List Tree) → form_at g n ≡ Some (form.Repeat a) → Derives g n (derivation t) → derivation t ≡ repeated (map derivation us) done → (i : ℕ) (u : Tree) → slice_get us i ≡ Some u → Derives g a (derivation u)
 items_derive g n a t us f h q i u e = repeated_each g n a f us (subst (λ v. Derives g n v) q h) i u e
+
+pub once_is : (t : Tree) (xs us : List Tree) → t ≡ Once xs → us ≡ xs → derivation t ≡ once (repeated (map derivation us) done)
+once_is t xs us p q = ap derivation p ∙ derivation-Once xs ∙ ap (λ w. once (repeated (map derivation w) done)) (sym q)
+
+pub option_smaller : (t : Tree) (xs us : List Tree) → t ≡ Once xs → us ≡ xs → (i : ℕ) (u : Tree) → slice_get us i ≡ Some u → size-Tree u < size-Tree t
+option_smaller t xs us p q i u e =
+    let s : size-Tree t ≡ size-Tree (Once xs) = ap size-Tree p in
+    let v : slice_get xs i ≡ Some u = subst (λ w. slice_get w i ≡ Some u) q e in
+    let h = most_get xs i u v in
+    let z : size-Tree (Once xs) ≡ max (most size-Tree xs) 0 + 1 = sized-Once xs in
+    omega arith
+
+pub options_derive : (g : List Entry) (n r set a : ℕ) (t : Tree) (us : List Tree) → form_at g n ≡ Some (form.Once r set) → form_at g r ≡ Some (form.Repeat a) → Derives g n (derivation t) → derivation t ≡ once (repeated (map derivation us) done) → (i : ℕ) (u : Tree) → slice_get us i ≡ Some u → Derives g a (derivation u)
+options_derive g n r set a t us f f' h q i u e =
+    let k : Derives g n (once (repeated (map derivation us) done)) = subst (λ v. Derives g n v) q h in
+    let p : k.0 ≡ r = cc in
+    repeated_each g r a f' us (subst (λ v. Derives g v (repeated (map derivation us) done)) p k.3) i u e

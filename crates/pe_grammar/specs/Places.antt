@@ -23,7 +23,7 @@ second_in (Some (Sequence a b)) = b
 second_in (Some (Choice a b)) = b
 second_in (Some (Repeat a)) = 0
 second_in (Some (Clause w a)) = w
-second_in (Some (Once r set)) = 0
+second_in (Some (Once r set)) = set
 
 abbrev pub first_at : List Entry → ℕ → ℕ
 first_at g n = first_in (form_at g n)
@@ -45,3 +45,6 @@ IsClauseAt g n = form_at g n ≡ Some (Clause (second_at g n) (first_at g n))
 
 abbrev pub IsTerminalAt : List Entry → ℕ → ℕ → Type 0
 IsTerminalAt g n k = form_at g n ≡ Some (Terminal k)
+
+abbrev pub IsOnceAt : List Entry → ℕ → Type 0
+IsOnceAt g n = form_at g n ≡ Some (Once (first_at g n) (second_at g n))

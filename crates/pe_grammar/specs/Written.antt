@@ -1,5 +1,6 @@
 -- A grammar as it is written on paper, and what its derivations are.
-use Rattle.std.specs.Prelude.{◌≡◌, ℕ, List, [], ◌++◌, Option, Some, slice_get, true}
+use Rattle.std.specs.Prelude.{◌≡◌, ℕ, ◌^◌, List, [], ◌∷◌, Option, Some, slice_get, true}
+use Rattle.std.specs.Int.Bits.{bit_or}
 use Rattle.pe_grammar.specs.declared.terminal.Token.{Token}
 use Rattle.pe_grammar.specs.Derivation.{Derivation, leaf, nothing, pair, left, right, done, more, present, absent, once, text, heads, IsNear, IsFresh, has}
 
@@ -14,6 +15,12 @@ pub data Written : Type 0 where
   nearest : ℕ → Written → Written
   -- many, of which no two begin with one word of the set
   each_once : ℕ → Written → Written
+
+-- the set of the words in the list
+abbrev pub set_of : List Written → ℕ
+set_of [] = 0
+set_of (word k ∷ es) = bit_or (2 ^ k) (set_of es)
+set_of (_ ∷ es) = set_of es
 
 infixr 20 ◌·◌
 abbrev pub ◌·◌ : Written → Written → Written

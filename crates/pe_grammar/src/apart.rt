@@ -1,11 +1,17 @@
-ghost use Rattle.std.specs.Prelude.{◌≡◌, ◌<◌, MatchOption, MatchResult, map, ℕ, slice_get, Some};
-ghost use Rattle.std.specs.List.{All};
-ghost use Rattle.pe_grammar.specs.Derivation.{derivation, pair, left, right, leaf, repeated, done, present, absent};
+//! Takes derivations apart, with no arm for a wrong shape.
+//!
+//! Each call takes the grammar, a place in it and a tree of the form there. What it says of the parts is what the next
+//! call on them requires. Their sizes fall, which ends a recursion along a tree. Only `listed` looks at the grammar; the
+//! others have it for what they require, which the checker computes where the grammar is a static table.
+
+ghost use Rattle.std.specs.Prelude.{◌≡◌, ◌<◌, MatchOption, MatchResult, map, ℕ, slice_get, Some, length};
+ghost use Rattle.pe_grammar.specs.Derivation.{derivation, pair, left, right, leaf, repeated, done, present, absent, once};
 ghost use Rattle.pe_grammar.specs.Grammar.{Derives};
-ghost use Rattle.pe_grammar.specs.Places.{first_at, second_at, IsSequenceAt, IsChoiceAt, IsRepeatAt, IsClauseAt, IsTerminalAt};
+ghost use Rattle.pe_grammar.specs.Places.{first_at, second_at, IsSequenceAt, IsChoiceAt, IsRepeatAt, IsClauseAt, IsTerminalAt, IsOnceAt};
 ghost use Rattle.pe_grammar.specs.declared.tree.Tree.{Tree, size-Tree};
 
-use crate::form::Entry;
+use crate::form::{Entry, Form};
+use crate::look::form_of;
 use crate::terminal::Token;
 use crate::tree::Tree;
 
@@ -25,7 +31,7 @@ pub fn parts<'a>(_grammar: &[Entry], _form: u16, tree: &'a Tree) -> (&'a Tree, &
     }
 }
 
-/// The side of a choice.
+/// The side of a choice: `Ok` is the first form, and `Err` the second.
 pub fn side<'a>(_grammar: &[Entry], _form: u16, tree: &'a Tree) -> Result<&'a Tree, &'a Tree>
     requires choice { IsChoiceAt _grammar.now _form }
     requires derives { Derives _grammar.now _form (derivation tree.now) }
@@ -40,7 +46,7 @@ pub fn side<'a>(_grammar: &[Entry], _form: u16, tree: &'a Tree) -> Result<&'a Tr
     }
 }
 
-/// What a clause has, if it is not left out.
+/// The terminal of a clause and what follows it, if the clause is not left out.
 pub fn clause<'a>(_grammar: &[Entry], _form: u16, tree: &'a Tree) -> Option<(Token, &'a Tree)>
     requires clause { IsClauseAt _grammar.now _form }
     requires derives { Derives _grammar.now _form (derivation tree.now) }
@@ -67,7 +73,7 @@ pub fn token(_grammar: &[Entry], _form: u16, tree: &Tree) -> Token
     }
 }
 
-/// What a repeat repeats.
+/// What a repetition repeats.
 pub fn items<'a>(_grammar: &[Entry], _form: u16, tree: &'a Tree) -> &'a [Tree]
     requires repeat { IsRepeatAt _grammar.now _form }
     requires derives { Derives _grammar.now _form (derivation tree.now) }
@@ -79,4 +85,47 @@ pub fn items<'a>(_grammar: &[Entry], _form: u16, tree: &'a Tree) -> &'a [Tree]
         Tree::Repeat(items) => items.as_slice(),
         _ => unreachable!(),
     }
+}
+
+/// The options of a list of options, in their order.
+pub fn options<'a>(_grammar: &[Entry], _form: u16, tree: &'a Tree) -> &'a [Tree]
+    requires once { IsOnceAt _grammar.now _form }
+    requires repeat { IsRepeatAt _grammar.now (first_at _grammar.now _form) }
+    requires derives { Derives _grammar.now _form (derivation tree.now) }
+    ensures is { derivation tree.now ≡ once (repeated (map derivation result.now) done) }
+    ensures each { (i : ℕ) (t : Tree) → slice_get result.now i ≡ Some t → Derives _grammar.now (first_at _grammar.now (first_at _grammar.now _form)) (derivation t) }
+    ensures smaller { (i : ℕ) (t : Tree) → slice_get result.now i ≡ Some t → size-Tree t < size-Tree tree.now }
+{
+    match tree {
+        Tree::Once(items) => items.as_slice(),
+        _ => unreachable!(),
+    }
+}
+
+/// The second form of a sequence, by its place.
+pub fn second_of(grammar: &[Entry], form: u16) -> u16
+    requires bound { form < length grammar.now }
+    requires sequence { IsSequenceAt grammar.now form }
+    ensures { result ≡ second_at grammar.now form }
+{
+    match form_of(grammar, form) {
+        Form::Sequence(_, second) => second,
+        _ => unreachable!(),
+    }
+}
+
+/// A list: its first part, and then pairs of a separator and a next part.
+pub fn listed<'a>(grammar: &[Entry], form: u16, tree: &'a Tree) -> (&'a Tree, &'a [Tree])
+    requires bound { form < length grammar.now }
+    requires sequence { IsSequenceAt grammar.now form }
+    requires repeat { IsRepeatAt grammar.now (second_at grammar.now form) }
+    requires derives { Derives grammar.now form (derivation tree.now) }
+    ensures is { derivation tree.now ≡ pair (derivation result.0.now) (repeated (map derivation result.1.now) done) }
+    ensures first { Derives grammar.now (first_at grammar.now form) (derivation result.0.now) }
+    ensures each { (i : ℕ) (t : Tree) → slice_get result.1.now i ≡ Some t → Derives grammar.now (first_at grammar.now (second_at grammar.now form)) (derivation t) }
+    ensures first_smaller { size-Tree result.0.now < size-Tree tree.now }
+    ensures smaller { (i : ℕ) (t : Tree) → slice_get result.1.now i ≡ Some t → size-Tree t < size-Tree tree.now }
+{
+    let (first, rest) = parts(grammar, form, tree);
+    (first, items(grammar, second_of(grammar, form), rest))
 }

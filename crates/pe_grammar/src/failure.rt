@@ -32,3 +32,13 @@ impl From<AllocError> for Stop {
         Stop::Memory
     }
 }
+
+impl From<AllocError> for Failure {
+    ghost use Rattle.pe_grammar.specs.declared.failure.Failure.TheVariants.{Memory};
+
+    ghost from_gives = { λ _ e. e ≡ Memory };
+
+    fn from(_error: AllocError) -> Failure {
+        Failure::Memory
+    }
+}
