@@ -8,6 +8,8 @@ mod boolean_table;
 mod build;
 mod statement;
 mod statement_table;
+#[cfg(test)]
+mod tests;
 
 pub use boolean::{one_boolean, read_boolean};
 pub use statement::{Setting, Statement, one_statement, read_statement};
