@@ -1,7 +1,7 @@
 #!/usr/bin/env python3
 """Writes the table of a grammar, and the grammar as it is written, from one description.
 
-Usage: tools/grammar.py DESCRIPTION..        (at the top of the repository; then `rt fmt` in the crate's folder)
+Usage: tools/grammar.py DESCRIPTION..        (at the top of the repository)
 
 A description is a text file:
 
@@ -349,12 +349,15 @@ class Table:
             "",
             "use pe_grammar::{Entry, Form};",
             "",
-            "// The terminals.",
         ]
-        out += [f"pub const {name}: u16 = {number};" for number, name in enumerate(self.of.terminals)]
-        out += ["", "// The places."]
-        out += [f"pub const {name.replace('_#', '_')}: u16 = {place};" for name, place in self.constants]
-        out += ["", f"pub static {self.of.name}: [Entry; {len(self.forms)}] = ["]
+        for title, constants in (
+            ("// The terminals.", [(name, number) for number, name in enumerate(self.of.terminals)]),
+            ("// The places.", self.constants),
+        ):
+            out.append(title)
+            for name, number in constants:
+                out += [f"pub const {name.replace('_#', '_')}: u16 = {number};", ""]
+        out += [f"pub static {self.of.name}: [Entry; {len(self.forms)}] = ["]
         for place, form in enumerate(self.forms):
             shown = form[0] + (f"({', '.join(map(str, form[1:]))})" if len(form) > 1 else "")
             out += [

@@ -1,5 +1,5 @@
 -- From what is repeated to a list of values.
-use Rattle.std.proofs.Common.{◌≡◌, List, [], ◌∷◌, refl, sym, ap, ◌∙◌}
+use Rattle.std.proofs.Common.{◌≡◌, List, [], ◌∷◌, refl, ap, ◌∙◌}
 use Rattle.std.specs.Prelude.{map}
 use Rattle.pe_grammar.specs.declared.tree.Tree.{Tree}
 use Rattle.pe_grammar.specs.Derivation.{Derivation, derivation, repeated, done, more, pair}

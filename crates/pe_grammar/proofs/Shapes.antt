@@ -1,5 +1,5 @@
 -- Which tree has a derivation of a form.
-use Rattle.std.proofs.Common.{◌≡◌, ℕ, zero, suc, ◌<◌, ◌≤◌, arith, List, [], ◌∷◌, Some, None, Option, sym, refl, ap, ◌∙◌, subst, inl, inr, ◌⊎◌}
+use Rattle.std.proofs.Common.{◌≡◌, ℕ, zero, suc, ◌<◌, ◌≤◌, arith, List, [], ◌∷◌, Some, sym, ap, ◌∙◌, subst, inl, inr, ◌⊎◌}
 use Rattle.std.specs.Prelude.{map, slice_get, max, ◌+◌}
 use denote.Param.Weighed.{most}
 use Rattle.pe_grammar.specs.declared.tree.Tree.TheViews.{sized-Once, sized-Repeat}
@@ -10,7 +10,7 @@ use Rattle.pe_grammar.specs.declared.form.Form.TheVariants as form
 use Rattle.pe_grammar.specs.declared.tree.Tree.{Tree, Tree-F, out-Tree, roll-Tree, roll-out-Tree, size-Tree}
 use Rattle.pe_grammar.specs.declared.tree.Tree.TheVariants.{Leaf, Empty, Pair, Left, Right, Repeat, Present, Absent, Once, rolls-Once, rolls-Present, rolls-Absent, rolls-Leaf, rolls-Empty, rolls-Pair, rolls-Left, rolls-Right, rolls-Repeat}
 use Rattle.pe_grammar.specs.declared.tree.Tree.TheOpen as layer
-use Rattle.pe_grammar.specs.Derivation.{Derivation, derivation, leaf, nothing, pair, left, right, done, more, present, absent, once, repeated}
+use Rattle.pe_grammar.specs.Derivation.{Derivation, derivation, leaf, nothing, pair, left, right, done, present, absent, once, repeated}
 use Rattle.pe_grammar.specs.Grammar.{Derives, form_at}
 use Rattle.pe_grammar.proofs.Trees.{derivation-Leaf, derivation-Empty, derivation-Pair, derivation-Left, derivation-Right, derivation-Repeat, derivation-Present, derivation-Absent, derivation-Once}
 

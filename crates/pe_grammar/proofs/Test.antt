@@ -1,6 +1,6 @@
 -- A grammar that passes the test is deterministic.
-use Rattle.std.proofs.Common.{◌≡◌, ℕ, zero, suc, ◌<◌, Bool, true, false, cond, not, ◌&&◌, ◌||◌, ltb, eqb, List, [], ◌∷◌, length, Some, None, Option, refl, sym, ap, ◌∙◌, subst, inl, inr, ◌⊎◌, arith}
-use Rattle.std.proofs.lemmas.Bool.{cases_Bool, ltb-true, eqb-true, and_parts, or_cases, not-true, eq-eqb}
+use Rattle.std.proofs.Common.{◌≡◌, ℕ, zero, suc, ◌<◌, Bool, true, false, cond, not, ltb, List, [], ◌∷◌, length, Some, None, Option, refl, sym, ap, ◌∙◌, subst, inl, inr, ◌⊎◌, arith}
+use Rattle.std.proofs.lemmas.Bool.{ltb-true, eqb-true, and_parts, not-true, eq-eqb}
 use Rattle.std.specs.Prelude.{slice_get, bit_and, min}
 use Rattle.std.specs.List.{list_all}
 use Rattle.std.specs.Int.{bit_at}
@@ -10,7 +10,7 @@ use Rattle.pe_grammar.specs.declared.form.Form.{Form}
 use Rattle.pe_grammar.specs.declared.form.Form.TheVariants.{Terminal, Empty, Sequence, Choice, Repeat, Clause, Once}
 use Rattle.pe_grammar.specs.Grammar.{form_at, form_in}
 use Rattle.pe_grammar.specs.Derivation.{has}
-use Rattle.pe_grammar.specs.Table.{IsDeterministic, IsSequence, IsChoice, IsRepeat, IsClause, IsOnce, SequenceFacts, ChoiceFacts, IsWithin, AreApart, nullable, nullable_in, starts, starts_in, goes_on, goes_on_in, opened, opened_in, rank, rank_in, height, height_in}
+use Rattle.pe_grammar.specs.Table.{IsDeterministic, IsSequence, IsChoice, IsRepeat, IsClause, IsOnce, SequenceFacts, ChoiceFacts, nullable, starts, rank_in}
 use Rattle.pe_grammar.specs.Test.{within, apart, where_true, all_true, sequence_tests, choice_tests, repeat_tests, clause_tests, once_tests, repeats, passes_two, passes_one, passes_form, passes_entry, passes}
 
 within_means : (x y : ℕ) → within x y ≡ true → (k : ℕ) → has x k ≡ true → has y k ≡ true

@@ -10,8 +10,8 @@ use Rattle.pe_grammar.specs.declared.form.Form.{Form}
 use Rattle.pe_grammar.specs.declared.form.Form.TheVariants.{Terminal, Empty, Sequence, Choice, Repeat, Clause, Once}
 use Rattle.pe_grammar.specs.Derivation.{Derivation, leaf, nothing, pair, left, right, done, more, present, absent, once, heads, IsFresh, has, taken, text, front, IsNear, LeavesOut}
 use Rattle.pe_grammar.specs.Grammar.{Derives, Spells, IsViable, form_at, form_in, IsFault}
-use Rattle.pe_grammar.specs.Table.{IsDeterministic, IsSequence, IsChoice, IsRepeat, IsClause, IsOnce, nullable, starts, goes_on, opened, rank, height}
-use Rattle.pe_grammar.specs.Reading.{Stops, Reads, Refuses, IsRefused, IsStop, ReadsOnce, RefusesOnce, IsRefusedOnce, IsStopOnce, starts_at, goes_left}
+use Rattle.pe_grammar.specs.Table.{IsDeterministic, IsSequence, IsChoice, IsRepeat, nullable, starts, opened, rank, height}
+use Rattle.pe_grammar.specs.Reading.{Stops, Reads, Refuses, IsRefused, IsStop, ReadsOnce, RefusesOnce, IsStopOnce, starts_at, goes_left}
 use Rattle.pe_grammar.specs.declared.failure.Stop.{Stop}
 use Rattle.pe_grammar.specs.declared.failure.Stop.TheVariants.{Memory, Left}
 

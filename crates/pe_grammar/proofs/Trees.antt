@@ -2,7 +2,7 @@
 use Rattle.std.proofs.Common.{◌≡◌, ℕ, List, [], ◌∷◌, ◌++◌, sym, refl, ap, ◌∙◌}
 use Rattle.std.specs.Prelude.{map}
 use Rattle.pe_grammar.specs.declared.terminal.Token.{Token}
-use Rattle.pe_grammar.specs.declared.tree.Tree.{Tree, Tree-F, fold-Tree, fold-roll-Tree}
+use Rattle.pe_grammar.specs.declared.tree.Tree.{Tree, fold-Tree, fold-roll-Tree}
 use Rattle.pe_grammar.specs.declared.tree.Tree.TheVariants.{Leaf, Empty, Pair, Left, Right, Repeat, Present, Absent, Once, rolls-Once, rolls-Present, rolls-Absent, rolls-Leaf, rolls-Empty, rolls-Pair, rolls-Left, rolls-Right, rolls-Repeat}
 use Rattle.pe_grammar.specs.declared.tree.Tree.TheOpen as layer
 use Rattle.pe_grammar.specs.Derivation.{Derivation, derivation, layer_of, leaf, nothing, pair, left, right, done, more, repeated, present, absent, once}

@@ -1,11 +1,11 @@
 -- What a reader answers: a derivation and the rest, or where the text can't go on.
-use Rattle.std.specs.Prelude.{◌≡◌, ℕ, Bool, true, false, not, ◌&&◌, ◌||◌, List, [], ◌∷◌, ◌++◌, length, Option, Some, None, Result, Ok, Err, ◌+◌, ◌≤◌, take, ◌<◌}
+use Rattle.std.specs.Prelude.{◌≡◌, ℕ, Bool, true, false, not, ◌&&◌, ◌||◌, List, [], ◌∷◌, ◌++◌, length, Some}
 use Rattle.pe_grammar.specs.declared.terminal.Token.{Token}
 use Rattle.pe_grammar.specs.declared.form.Entry.{Entry}
 use Rattle.pe_grammar.specs.declared.failure.Stop.{Stop}
 use Rattle.pe_grammar.specs.declared.failure.Stop.TheVariants.{Memory, Left}
-use Rattle.pe_grammar.specs.Derivation.{Derivation, derivation, text, heads, IsFresh, front, IsNear}
-use Rattle.pe_grammar.specs.Grammar.{Derives, Spells, IsViable}
+use Rattle.pe_grammar.specs.Derivation.{Derivation, text, heads, IsFresh, front, IsNear}
+use Rattle.pe_grammar.specs.Grammar.{Derives, IsViable}
 use Rattle.pe_grammar.specs.Table.{nullable, starts, goes_on}
 
 -- a text of n that could end here can't go on

@@ -1,5 +1,5 @@
 -- The test of a grammar and its table, which the checker computes.
-use Rattle.std.specs.Prelude.{ℕ, Bool, true, false, cond, not, ◌&&◌, ltb, eqb, bit_and, length, List, [], ◌∷◌, slice_get, Option, Some, None}
+use Rattle.std.specs.Prelude.{ℕ, Bool, true, false, cond, not, ◌&&◌, ltb, eqb, bit_and, List, [], ◌∷◌, slice_get, Option, Some, None}
 use Rattle.std.specs.List.{list_all}
 use Rattle.pe_grammar.specs.declared.form.Entry.{Entry}
 use Rattle.pe_grammar.specs.declared.form.Form.{Form}

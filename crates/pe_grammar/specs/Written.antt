@@ -1,7 +1,6 @@
 -- A grammar as it is written on paper, and what its derivations are.
 use Rattle.std.specs.Prelude.{◌≡◌, ℕ, ◌^◌, List, [], ◌∷◌, Option, Some, slice_get, true}
 use Rattle.std.specs.Int.Bits.{bit_or}
-use Rattle.pe_grammar.specs.declared.terminal.Token.{Token}
 use Rattle.pe_grammar.specs.Derivation.{Derivation, leaf, nothing, pair, left, right, done, more, present, absent, once, text, heads, IsNear, IsFresh, has}
 
 pub data Written : Type 0 where

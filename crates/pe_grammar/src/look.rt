@@ -78,4 +78,3 @@ pub(crate) fn is_taken(set: u128, used: &[u16], kind: u16) -> bool
 {
     contains(set, kind) && used.contains(&kind)
 }
-

@@ -4,51 +4,94 @@ use pe_grammar::{Entry, Form};
 
 // The terminals.
 pub const PLUS: u16 = 0;
+
 pub const BAR: u16 = 1;
+
 pub const STAR: u16 = 2;
+
 pub const AND: u16 = 3;
+
 pub const CARET: u16 = 4;
+
 pub const BANG: u16 = 5;
+
 pub const PRIME: u16 = 6;
+
 pub const NAME: u16 = 7;
+
 pub const ZERO: u16 = 8;
+
 pub const ONE: u16 = 9;
+
 pub const OPEN: u16 = 10;
+
 pub const CLOSE: u16 = 11;
 
 // The places.
 pub const AT_SUM: u16 = 0;
+
 pub const AT_SUM_PART_2: u16 = 5;
+
 pub const AT_SUM_PART_2_EACH: u16 = 6;
+
 pub const AT_SUM_PART_2_EACH_PART_1: u16 = 7;
+
 pub const AT_TOKEN_PLUS: u16 = 8;
+
 pub const AT_TOKEN_BAR: u16 = 9;
+
 pub const AT_PRODUCT: u16 = 1;
+
 pub const AT_PRODUCT_PART_2: u16 = 10;
+
 pub const AT_PRODUCT_PART_2_EACH: u16 = 11;
+
 pub const AT_PRODUCT_PART_2_EACH_PART_1: u16 = 12;
+
 pub const AT_PRODUCT_PART_2_EACH_PART_1_PART_1: u16 = 13;
+
 pub const AT_TOKEN_STAR: u16 = 14;
+
 pub const AT_TOKEN_AND: u16 = 15;
+
 pub const AT_DIFFERENCE: u16 = 2;
+
 pub const AT_DIFFERENCE_PART_2: u16 = 16;
+
 pub const AT_DIFFERENCE_PART_2_EACH: u16 = 17;
+
 pub const AT_TOKEN_CARET: u16 = 18;
+
 pub const AT_MARKED: u16 = 3;
+
 pub const AT_MARKED_PART_1: u16 = 19;
+
 pub const AT_TOKEN_BANG: u16 = 20;
+
 pub const AT_MARKED_2: u16 = 21;
+
 pub const AT_MARKED_PART_3: u16 = 22;
+
 pub const AT_TOKEN_PRIME: u16 = 23;
+
 pub const AT_PRIMARY: u16 = 4;
+
 pub const AT_TOKEN_NAME: u16 = 24;
+
 pub const AT_PRIMARY_2: u16 = 25;
+
 pub const AT_TOKEN_ZERO: u16 = 26;
+
 pub const AT_PRIMARY_3: u16 = 27;
+
 pub const AT_TOKEN_ONE: u16 = 28;
+
 pub const AT_PRIMARY_PART_4: u16 = 29;
+
 pub const AT_TOKEN_OPEN: u16 = 30;
+
 pub const AT_PRIMARY_PART_4_2: u16 = 31;
+
 pub const AT_TOKEN_CLOSE: u16 = 32;
 
 pub static BOOLEAN: [Entry; 33] = [

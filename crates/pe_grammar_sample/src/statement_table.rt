@@ -4,61 +4,114 @@ use pe_grammar::{Entry, Form};
 
 // The terminals.
 pub const BEGIN: u16 = 0;
+
 pub const END: u16 = 1;
+
 pub const IF: u16 = 2;
+
 pub const OPEN: u16 = 3;
+
 pub const CLOSE: u16 = 4;
+
 pub const ELSE: u16 = 5;
+
 pub const NAME: u16 = 6;
+
 pub const EQUALS: u16 = 7;
+
 pub const COMMA: u16 = 8;
+
 pub const SEMI: u16 = 9;
+
 pub const DECLARE: u16 = 10;
+
 pub const SIZE: u16 = 11;
+
 pub const SIGNED: u16 = 12;
+
 pub const NOTE: u16 = 13;
 
 // The places.
 pub const AT_STATEMENT: u16 = 0;
+
 pub const AT_STATEMENT_2: u16 = 9;
+
 pub const AT_STATEMENT_3: u16 = 10;
+
 pub const AT_STATEMENT_4: u16 = 11;
+
 pub const AT_TOKEN_SEMI: u16 = 12;
+
 pub const AT_BLOCK: u16 = 1;
+
 pub const AT_TOKEN_BEGIN: u16 = 13;
+
 pub const AT_BLOCK_2: u16 = 14;
+
 pub const AT_BLOCK_PART_2: u16 = 15;
+
 pub const AT_TOKEN_END: u16 = 16;
+
 pub const AT_TEST: u16 = 2;
+
 pub const AT_TOKEN_IF: u16 = 17;
+
 pub const AT_TEST_2: u16 = 18;
+
 pub const AT_TOKEN_OPEN: u16 = 19;
+
 pub const AT_TEST_3: u16 = 20;
+
 pub const AT_TOKEN_NAME: u16 = 21;
+
 pub const AT_TEST_4: u16 = 22;
+
 pub const AT_TOKEN_CLOSE: u16 = 23;
+
 pub const AT_TEST_5: u16 = 24;
+
 pub const AT_OTHERWISE: u16 = 3;
+
 pub const AT_ASSIGNMENT: u16 = 4;
+
 pub const AT_ASSIGNMENT_2: u16 = 25;
+
 pub const AT_TOKEN_EQUALS: u16 = 26;
+
 pub const AT_ASSIGNMENT_3: u16 = 27;
+
 pub const AT_NAMES: u16 = 5;
+
 pub const AT_NAMES_PART_2: u16 = 28;
+
 pub const AT_NAMES_PART_2_EACH: u16 = 29;
+
 pub const AT_TOKEN_COMMA: u16 = 30;
+
 pub const AT_DECLARATION: u16 = 6;
+
 pub const AT_TOKEN_DECLARE: u16 = 31;
+
 pub const AT_DECLARATION_2: u16 = 32;
+
 pub const AT_DECLARATION_3: u16 = 33;
+
 pub const AT_OPTIONS: u16 = 7;
+
 pub const AT_OPTIONS_MANY: u16 = 34;
+
 pub const AT_OPTION: u16 = 8;
+
 pub const AT_OPTION_PART_1: u16 = 35;
+
 pub const AT_TOKEN_SIZE: u16 = 36;
+
 pub const AT_OPTION_2: u16 = 37;
+
 pub const AT_TOKEN_SIGNED: u16 = 38;
+
 pub const AT_OPTION_PART_3: u16 = 39;
+
 pub const AT_TOKEN_NOTE: u16 = 40;
 
 pub static STATEMENT: [Entry; 41] = [

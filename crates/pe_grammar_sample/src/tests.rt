@@ -1,7 +1,9 @@
 //! Whether the clauses say what is meant: trees and places of faults that were found by hand.
 
 use crate::boolean::read_boolean;
-use crate::boolean_table::{BANG, CARET, CLOSE as SHUT, NAME as LETTER, ONE, OPEN as UP, PLUS, PRIME, STAR};
+use crate::boolean_table::{
+    BANG, CARET, CLOSE as SHUT, NAME as LETTER, ONE, OPEN as UP, PLUS, PRIME, STAR,
+};
 use crate::statement::{Setting, Statement, read_statement};
 use crate::statement_table::{
     BEGIN, CLOSE, COMMA, DECLARE, ELSE, END, EQUALS, IF, NAME, NOTE, OPEN, SEMI, SIGNED, SIZE,
@@ -32,7 +34,10 @@ fn booleans_are_read(rt: HostRuntime) -> Result<(), Fail> {
     ];
     for kinds in cases {
         let text = tokens(rt.alloc(), kinds)?;
-        assert!(rt; read_boolean(rt.alloc(), text.as_slice()).is_ok(), "{kinds:?}");
+        assert!(rt;
+            read_boolean(rt.alloc(), text.as_slice()).is_ok(),
+            "{kinds:?}"
+        );
     }
     Ok(())
 }
@@ -51,14 +56,20 @@ fn faults_of_booleans(rt: HostRuntime) -> Result<(), Fail> {
     ];
     for (kinds, at) in cases {
         let text = tokens(rt.alloc(), kinds)?;
-        assert_eq!(rt; read_boolean(rt.alloc(), text.as_slice()).err(), Some(Failure::Syntax(at)), "{kinds:?}");
+        assert_eq!(rt;
+            read_boolean(rt.alloc(), text.as_slice()).err(),
+            Some(Failure::Syntax(at)),
+            "{kinds:?}"
+        );
     }
     Ok(())
 }
 
 #[test]
 fn a_block(rt: HostRuntime) -> Result<(), Fail> {
-    let kinds = [BEGIN, SEMI, NAME, EQUALS, NAME, COMMA, NAME, COMMA, NAME, SEMI, BEGIN, END, END];
+    let kinds = [
+        BEGIN, SEMI, NAME, EQUALS, NAME, COMMA, NAME, COMMA, NAME, SEMI, BEGIN, END, END,
+    ];
     let text = tokens(rt.alloc(), &kinds)?;
     let Ok(Statement::Block(all)) = read_statement(rt.alloc(), text.as_slice()) else {
         return Err("no block".into());
@@ -79,7 +90,9 @@ fn a_block(rt: HostRuntime) -> Result<(), Fail> {
 
 #[test]
 fn an_else_is_of_the_nearest_test(rt: HostRuntime) -> Result<(), Fail> {
-    let kinds = [IF, OPEN, NAME, CLOSE, IF, OPEN, NAME, CLOSE, SEMI, ELSE, SEMI];
+    let kinds = [
+        IF, OPEN, NAME, CLOSE, IF, OPEN, NAME, CLOSE, SEMI, ELSE, SEMI,
+    ];
     let text = tokens(rt.alloc(), &kinds)?;
     let Ok(Statement::Test(name, then, other)) = read_statement(rt.alloc(), text.as_slice()) else {
         return Err("no test".into());
@@ -96,7 +109,9 @@ fn an_else_is_of_the_nearest_test(rt: HostRuntime) -> Result<(), Fail> {
 
 #[test]
 fn a_declaration(rt: HostRuntime) -> Result<(), Fail> {
-    let kinds = [DECLARE, NAME, NOTE, NAME, SIZE, NAME, NOTE, NAME, SIGNED, SEMI];
+    let kinds = [
+        DECLARE, NAME, NOTE, NAME, SIZE, NAME, NOTE, NAME, SIGNED, SEMI,
+    ];
     let text = tokens(rt.alloc(), &kinds)?;
     let Ok(Statement::Declare(name, all)) = read_statement(rt.alloc(), text.as_slice()) else {
         return Err("no declaration".into());
@@ -132,7 +147,11 @@ fn faults_of_statements(rt: HostRuntime) -> Result<(), Fail> {
     ];
     for (kinds, at) in cases {
         let text = tokens(rt.alloc(), kinds)?;
-        assert_eq!(rt; read_statement(rt.alloc(), text.as_slice()).err(), Some(Failure::Syntax(at)), "{kinds:?}");
+        assert_eq!(rt;
+            read_statement(rt.alloc(), text.as_slice()).err(),
+            Some(Failure::Syntax(at)),
+            "{kinds:?}"
+        );
     }
     Ok(())
 }
@@ -154,6 +173,9 @@ fn long_and_deep(rt: HostRuntime) -> Result<(), Fail> {
     assert!(rt; read_statement(rt.alloc(), text.as_slice()).is_ok());
     kinds.push(END)?;
     let text = tokens(rt.alloc(), kinds.as_slice())?;
-    assert_eq!(rt; read_statement(rt.alloc(), text.as_slice()).err(), Some(Failure::Syntax(100_128)));
+    assert_eq!(rt;
+        read_statement(rt.alloc(), text.as_slice()).err(),
+        Some(Failure::Syntax(100_128))
+    );
     Ok(())
 }

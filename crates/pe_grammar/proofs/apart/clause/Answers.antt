@@ -1,8 +1,6 @@
-use Rattle.std.proofs.Common.{inl, inr, ap, ◌∙◌, sym}
+use Rattle.std.proofs.Common.{inl, inr}
 use Rattle.pe_grammar.specs.Places.{first_at, second_at}
-use Rattle.pe_grammar.specs.Derivation.{derivation}
 use Rattle.pe_grammar.proofs.Shapes.{clause_tree, present_is, absent_is, present_derives}
-use Rattle.pe_grammar.specs.declared.tree.Tree.TheVariants.{Present, Absent}
 use Rattle.pe_grammar.proofs.apart.clause.Goals as goal
 
 pub unreachable-requires : goal.unreachable-requires

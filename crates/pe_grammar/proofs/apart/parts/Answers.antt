@@ -1,4 +1,3 @@
-use Rattle.pe_grammar.specs.Derivation.{derivation}
 use Rattle.pe_grammar.specs.Places.{first_at, second_at}
 use Rattle.pe_grammar.proofs.Shapes.{sequence_tree, pair_is, pair_derives}
 use Rattle.pe_grammar.proofs.apart.parts.Goals as goal

@@ -1,12 +1,10 @@
-use Rattle.std.proofs.Common.{◌≡◌, ◌<◌, ◌≤◌, ◌+◌, ◌*◌, ℕ, Some, true, false, length, List, ◌∷◌, ◌++◌, [], arith, sym, ap, ◌∙◌, subst, inl, inr, ◌⊎◌, refl}
+use Rattle.std.proofs.Common.{◌≡◌, ◌<◌, ℕ, true, false, length, List, ◌∷◌, ◌++◌, [], arith, sym, ap, ◌∙◌, subst, inl, inr, ◌⊎◌, refl}
 use Rattle.std.specs.Prelude.{map}
 use Rattle.std.proofs.lemmas.Result.{err_from_is_err_and, MatchResult-weaker}
-use Rattle.pe_grammar.specs.declared.terminal.Token.{Token}
 use Rattle.pe_grammar.specs.declared.failure.Stop.{Stop}
 use Rattle.pe_grammar.specs.declared.failure.Stop.TheVariants.{Memory, Left}
-use Rattle.pe_grammar.specs.Derivation.{Derivation, derivation, repeated, more, done, text, taken}
-use Rattle.pe_grammar.specs.Grammar.{form_at}
-use Rattle.pe_grammar.specs.Table.{rank, nullable, IsDeterministic}
+use Rattle.pe_grammar.specs.Derivation.{derivation, repeated, more, done, text, taken}
+use Rattle.pe_grammar.specs.Table.{nullable}
 use Rattle.pe_grammar.specs.Reading.{Reads, IsStop, IsRefused, ReadsOnce, RefusesOnce, IsStopOnce, IsRefusedOnce}
 use Rattle.pe_grammar.proofs.Theory.{reads_nothing, reads_pair, reads_left, reads_right, reads_done, reads_more, reads_present, reads_absent, stop_present, reads_once, stop_once, once_done, once_more, once_taken, once_one, once_again, refused_one, refused_again, stop_first, stop_second, stop_left, stop_right, shorter, terminal_reads, terminal_stops}
 use Rattle.pe_grammar.proofs.Trees.{repeated_push}

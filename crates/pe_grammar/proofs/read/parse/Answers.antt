@@ -1,4 +1,4 @@
-use Rattle.std.proofs.Common.{◌≡◌, ◌<◌, ◌≤◌, ◌+◌, ◌-◌, ℕ, length, arith, subst, sym}
+use Rattle.std.proofs.Common.{◌≡◌, ◌-◌, length, subst}
 use Rattle.pe_grammar.specs.Reading.{IsRefused}
 use Rattle.pe_grammar.specs.Grammar.{IsFault}
 use Rattle.pe_grammar.proofs.Theory.{longer_fault, refused_fault}
