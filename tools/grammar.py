@@ -16,7 +16,8 @@ A description is a text file:
 
 In a rule: `a b` one after the other, `a | b` either, `[ a ]` a or nothing, `{ a }` any number, `( a )` grouping,
 `clause (A B) a` a terminal of the set and then a, or nothing where none of the set follows, and
-`once (A B) { a }` any number of which no two begin with the same terminal of the set.
+`once (A B) { a }` any number of which no two begin with the same terminal of the set, and
+`once (A B) needs (A) { a }` the same, where one begins with each terminal of the second set.
 
 The table has one entry for each form, and a form that stands in several places has one entry. Its hints (sets, ranks,
 heights) are computed here and tested by the checker, so nothing rests on this tool. It says where a grammar can't be read
@@ -44,7 +45,7 @@ class Wrong(Exception):
 
 # What a rule's body is: tuples
 #   ("terminal", NAME) ("rule", name) ("empty",) ("sequence", [parts]) ("choice", [sides]) ("repeat", part)
-#   ("clause", (NAMES), part) ("once", (NAMES), part)
+#   ("clause", (NAMES), part) ("once", (NAMES), (NEEDED), part)
 
 
 class Description:
@@ -153,9 +154,12 @@ class Body:
         if word == "clause":
             return ("clause", self.names(), self.part())
         if word == "once":
-            names = self.names()
+            names, needed = self.names(), ()
+            if self.peek() == "needs":
+                self.take()
+                needed = self.names()
             self.take("{")
-            return ("once", names, self.closed("}"))
+            return ("once", names, needed, self.closed("}"))
         if word in self.of.rules:
             return ("rule", word)
         return ("terminal", self.terminal(word))
@@ -215,7 +219,7 @@ class Table:
             return ("Repeat", self.place(form[1], name + "_EACH"))
         if kind == "clause":
             return ("Clause", self.mask(form[1]), self.place(form[2], name + "_THEN"))
-        return ("Once", self.place(("repeat", form[2]), name + "_MANY"), self.mask(form[1]))
+        return ("Once", self.place(("repeat", form[3]), name + "_MANY"), self.mask(form[1]), self.mask(form[2]))
 
     def chain(self, kind, parts, name):
         """A sequence or a choice of several, as one of two: the first, and the chain of the others."""
@@ -260,7 +264,7 @@ class Table:
             return (True, first[part], first[part] | goes_on[part], opened[part])
         if kind == "Once":
             part = form[1]
-            return (True, first[part], goes_on[part], opened[part])
+            return (form[3] == 0, first[part], goes_on[part], opened[part])
         if kind == "Clause":
             part = form[2]
             return (True, form[1], goes_on[part], opened[part] | form[1])
@@ -303,6 +307,13 @@ class Table:
             for place, form in enumerate(self.forms):
                 if self.height[place] is not None:
                     continue
+                if form[0] == "Once":
+                    part = self.forms[form[1]][1]
+                    wanted = [number for number in range(128) if form[3] >> number & 1]
+                    limits = [self.limit(part, number) for number in wanted]
+                    if None not in limits:
+                        self.height[place] = max(limits, default=0)
+                    continue
                 if form[0] not in ("Sequence", "Choice"):
                     self.height[place] = 0
                     continue
@@ -313,7 +324,20 @@ class Table:
                     self.height[place] = min(known) + 1
         for place in range(len(self.forms)):
             if self.height[place] is None:
-                raise Wrong(f"{self.shown(place)} has no text")
+                raise Wrong(f"{self.shown(place)} has no text, or needs an option that does not begin so for certain")
+
+    def limit(self, place, number):
+        """Above the heights of the sequences of a text that begins so, or None where none is known."""
+        form = self.forms[place]
+        if form[0] == "Terminal":
+            return 0 if form[1] == number else None
+        if form[0] == "Choice":
+            known = [side for side in (self.limit(side, number) for side in form[1:]) if side is not None]
+            return min(known, default=None)
+        if form[0] == "Sequence" and self.height[place] is not None:
+            first = self.limit(form[1], number)
+            return None if first is None else max(first, self.height[place] + 1)
+        return None
 
     def test(self):
         """What the checker's test would find wrong, with names."""
@@ -333,6 +357,8 @@ class Table:
                 if self.nullable[form[1]]:
                     raise Wrong(f"{self.shown(place)}: what is repeated may be empty")
                 self.apart(place, self.goes_on[form[1]] & self.first[form[1]], "goes on what is repeated, or begins the next")
+            elif kind == "Once":
+                self.apart(place, self.opened[form[1]] & form[3], "begins a clause left out, or a needed option")
 
     def apart(self, place, both, why):
         if both:
@@ -347,7 +373,7 @@ class Table:
         out = [
             f"//! The table of the grammar in `{self.of.written.split('/')[-1]}`: written by `tools/grammar.py`.",
             "",
-            "use pe_grammar::{Entry, Form};",
+            f"use pe_grammar::{{{'Bounds, ' if any(form[0] == 'Once' for form in self.forms) else ''}Entry, Form}};",
             "",
         ]
         for title, constants in (
@@ -360,9 +386,20 @@ class Table:
         out += [f"pub static {self.of.name}: [Entry; {len(self.forms)}] = ["]
         for place, form in enumerate(self.forms):
             shown = form[0] + (f"({', '.join(map(str, form[1:]))})" if len(form) > 1 else "")
+            lines = [f"        form: Form::{shown},"]
+            if form[0] == "Once":
+                lines = [
+                    "        form: Form::Once(",
+                    f"            {form[1]},",
+                    "            Bounds {",
+                    f"                once: {form[2]},",
+                    f"                needed: {form[3]},",
+                    "            },",
+                    "        ),",
+                ]
             out += [
                 "    Entry {",
-                f"        form: Form::{shown},",
+                *lines,
                 f"        nullable: {str(self.nullable[place]).lower()},",
                 f"        first: {self.first[place]},",
                 f"        goes_on: {self.goes_on[place]},",
@@ -408,12 +445,15 @@ class Written:
             self.used.update(["nearest", "set_of"])
             text = f"nearest {self.set_of(form[1])} {self.shown(form[2], 3)}"
         else:
-            self.used.update(["each_once", "set_of"])
-            text = f"each_once {self.set_of(form[1])} {self.shown(form[2], 3)}"
+            self.used.update(["each_once", "bounds_of"])
+            text = f"each_once (bounds_of {self.names(form[1])} {self.names(form[2])}) {self.shown(form[3], 3)}"
         return f"({text})" if inner >= 2 else text
 
     def set_of(self, names):
-        return "(set_of (" + " ∷ ".join([*names, "[]"]) + "))"
+        return f"(set_of {self.names(names)})"
+
+    def names(self, names):
+        return f"({' ∷ '.join([*names, '[]'])})" if names else "[]"
 
     def text(self):
         rules = list(self.of.rules)

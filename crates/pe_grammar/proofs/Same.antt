@@ -2,6 +2,7 @@
 use Rattle.std.proofs.Common.{◌≡◌, ℕ, zero, suc, ◌+◌, Bool, true, ◌&&◌, eqb, List, [], ◌∷◌, Option, Some, None, refl, ap, ◌∙◌, subst, arith}
 use Rattle.std.proofs.lemmas.Bool.{eqb-true, and_parts}
 use Rattle.std.specs.Prelude.{slice_get, is_some}
+use Rattle.pe_grammar.specs.declared.form.Bounds.{Bounds}
 use Rattle.pe_grammar.specs.declared.form.Entry.{Entry}
 use Rattle.pe_grammar.specs.declared.form.Form.{Form}
 use Rattle.pe_grammar.specs.declared.form.Form.TheVariants.{Terminal, Empty, Sequence, Choice, Repeat, Clause, Once}
@@ -34,7 +35,12 @@ clause_at : (o : Option Form) (f : ℕ → ℕ → Bool) → at_clause o f ≡ t
 clause_at (Some (Clause w i)) f h = (w, i, refl, h)
 clause_at _ f h = cc
 
-once_at : (o : Option Form) (f : ℕ → ℕ → Bool) → at_once o f ≡ true → (i : ℕ) × (s : ℕ) × (o ≡ Some (Once i s)) × (f i s ≡ true)
+same_bounds : (a b : Bounds) → (eqb a.once b.once && eqb a.needed b.needed) ≡ true → a ≡ b
+same_bounds a b h =
+    let p = and_parts (eqb a.once b.once) (eqb a.needed b.needed) h in
+    ap (λ v. record { once = v; needed = a.needed }) (eqb-true a.once b.once p.0) ∙ ap (λ v. record { once = b.once; needed = v }) (eqb-true a.needed b.needed p.1)
+
+once_at : (o : Option Form) (f : ℕ → Bounds → Bool) → at_once o f ≡ true → (i : ℕ) × (s : Bounds) × (o ≡ Some (Once i s)) × (f i s ≡ true)
 once_at (Some (Once i s)) f h = (i, s, refl, h)
 once_at _ f h = cc
 
@@ -66,9 +72,9 @@ module _ (g : List Entry) (rs : List Written) where
       let y = and_parts (eqb x.0 w) (stands g rs x.1 c) x.3 in
       (x.1, x.2 ∙ ap (λ v. Some (Clause v x.1)) (eqb-true x.0 w y.0), y.1)
   says n (each_once set c) b h =
-      let x = once_at (form_at g n) (λ i s. eqb s set && at_repeat (form_at g i) (λ j. stands g rs j c)) h in
-      let y = and_parts (eqb x.1 set) (at_repeat (form_at g x.0) (λ j. stands g rs j c)) x.3 in
-      (x.0, x.2 ∙ ap (λ v. Some (Once x.0 v)) (eqb-true x.1 set y.0), y.1)
+      let x = once_at (form_at g n) (λ i s. (eqb s.once set.once && eqb s.needed set.needed) && at_repeat (form_at g i) (λ j. stands g rs j c)) h in
+      let y = and_parts (eqb x.1.once set.once && eqb x.1.needed set.needed) (at_repeat (form_at g x.0) (λ j. stands g rs j c)) x.3 in
+      (x.0, x.2 ∙ ap (λ v. Some (Once x.0 v)) (same_bounds x.1 set y.0), y.1)
 
   rule_at : (r n : ℕ) (es : List Written) (e : Written) → rules_from g rs r es ≡ true → slice_get es n ≡ Some e → (is_body e ≡ true) × (stands g rs (r + n) e ≡ true)
   rule_at r n [] e h q = cc
@@ -118,7 +124,7 @@ module _ (g : List Entry) (rs : List Written) where
     to_table (more c d) n e h o = let s = says_of n e (many o.0) h o.1 in (s.0, s.1, to_table c s.0 o.0 s.2 o.2, to_table d n e h o.3, o.4)
     to_table (present t c) n e h o = let s = says_of n e (nearest o.0 o.1) h o.2 in (o.0, s.0, s.1, o.3, to_table c s.0 o.1 s.2 o.4)
     to_table (absent k) n e h o = let s = says_of n e (nearest k o.0) h o.1 in (s.0, s.1)
-    to_table (once c) n e h o = let s = says_of n e (each_once o.0 o.1) h o.2 in (s.0, o.0, s.1, to_table c s.0 (many o.1) s.2 o.3, o.4)
+    to_table (once c) n e h o = let s = says_of n e (each_once o.0 o.1) h o.2 in (s.0, o.0, s.1, to_table c s.0 (many o.1) s.2 o.3, o.4, o.5)
 
     is_word : (n m : ℕ) (b : Written) → Says n b → form_at g n ≡ Some (Terminal m) → b ≡ word m
     is_word n m (word k) s f = cc
@@ -180,7 +186,7 @@ module _ (g : List Entry) (rs : List Written) where
     is_nearest n w i (each_once u c) s f = let p = s.1 in cc
     is_nearest n w i (rule r) s f = absurd s
 
-    is_once : (n i z : ℕ) (b : Written) → Says n b → form_at g n ≡ Some (Once i z) → (x : Written) × (b ≡ each_once z x) × (stands g rs i (many x) ≡ true)
+    is_once : (n i : ℕ) (z : Bounds) (b : Written) → Says n b → form_at g n ≡ Some (Once i z) → (x : Written) × (b ≡ each_once z x) × (stands g rs i (many x) ≡ true)
     is_once n i z (word k) s f = cc
     is_once n i z empty s f = cc
     is_once n i z (both c d) s f = let p = s.2 in cc
@@ -224,4 +230,4 @@ module _ (g : List Entry) (rs : List Written) where
     from_table (once c) n e h o =
         let x = body_stands n e h in
         let y = is_once n o.0 o.1 x.0 x.2 o.2 in
-        (o.1, y.0, x.1 ∙ ap (λ b. Some b) y.1, from_table c o.0 (many y.0) y.2 o.3, o.4)
+        (o.1, y.0, x.1 ∙ ap (λ b. Some b) y.1, from_table c o.0 (many y.0) y.2 o.3, o.4, o.5)

@@ -4,6 +4,7 @@ use Rattle.std.specs.Prelude.{map, slice_get, max, ◌+◌}
 use denote.Param.Weighed.{most}
 use Rattle.pe_grammar.specs.declared.tree.Tree.TheViews.{sized-Once, sized-Repeat}
 use Rattle.pe_grammar.specs.declared.terminal.Token.{Token}
+use Rattle.pe_grammar.specs.declared.form.Bounds.{Bounds}
 use Rattle.pe_grammar.specs.declared.form.Entry.{Entry}
 use Rattle.pe_grammar.specs.declared.form.Form.TheVariants.{Terminal, Sequence, Choice, Clause}
 use Rattle.pe_grammar.specs.declared.form.Form.TheVariants as form
@@ -53,7 +54,7 @@ FormOf g n t =
     ⊎ (((x : Tree) × (a : ℕ) × (b : ℕ) × (t ≡ Right x) × (form_at g n ≡ Some (Choice a b)))
     ⊎ (((k : Token) × (x : Tree) × (set : ℕ) × (a : ℕ) × (t ≡ Present k x) × (form_at g n ≡ Some (Clause set a)))
     ⊎ (((w : ℕ) × (a : ℕ) × (t ≡ Absent w) × (form_at g n ≡ Some (Clause w a)))
-    ⊎ (((form_at g n ≡ Some form.Empty) ⊎ ((r : ℕ) × (set : ℕ) × (xs : List Tree) × (t ≡ Once xs) × (form_at g n ≡ Some (form.Once r set)))) ⊎ ((a : ℕ) × (xs : List Tree) × (t ≡ Repeat xs) × (form_at g n ≡ Some (form.Repeat a)))))))))
+    ⊎ (((form_at g n ≡ Some form.Empty) ⊎ ((r : ℕ) × (bounds : Bounds) × (xs : List Tree) × (t ≡ Once xs) × (form_at g n ≡ Some (form.Once r bounds)))) ⊎ ((a : ℕ) × (xs : List Tree) × (t ≡ Repeat xs) × (form_at g n ≡ Some (form.Repeat a)))))))))
 
 repeat_form : (g : List Entry) (n : ℕ) (ds : List Derivation) → Derives g n (repeated ds done) → (a : ℕ) × (form_at g n ≡ Some (form.Repeat a))
 repeat_form g n [] h = h
@@ -232,7 +233,7 @@ repeat_tree g n a t f h = elim (form_of_tree g n t h) [
   ]
 ]
 
-pub once_tree : (g : List Entry) (n r set : ℕ) (t : Tree) → form_at g n ≡ Some (form.Once r set) → Derives g n (derivation t) → (xs : List Tree) × (t ≡ Once xs)
+pub once_tree : (g : List Entry) (n r : ℕ) (set : Bounds) (t : Tree) → form_at g n ≡ Some (form.Once r set) → Derives g n (derivation t) → (xs : List Tree) × (t ≡ Once xs)
 once_tree g n r set t f h = elim (form_of_tree g n t h) [
   | inl v ↦ let p = v.2 in cc
   | inr w ↦ elim w [
@@ -291,7 +292,7 @@ option_smaller t xs us p q i u e =
     let z : size-Tree (Once xs) ≡ max (most size-Tree xs) 0 + 1 = sized-Once xs in
     omega arith
 
-pub options_derive : (g : List Entry) (n r set a : ℕ) (t : Tree) (us : List Tree) → form_at g n ≡ Some (form.Once r set) → form_at g r ≡ Some (form.Repeat a) → Derives g n (derivation t) → derivation t ≡ once (repeated (map derivation us) done) → (i : ℕ) (u : Tree) → slice_get us i ≡ Some u → Derives g a (derivation u)
+pub options_derive : (g : List Entry) (n r : ℕ) (set : Bounds) (a : ℕ) (t : Tree) (us : List Tree) → form_at g n ≡ Some (form.Once r set) → form_at g r ≡ Some (form.Repeat a) → Derives g n (derivation t) → derivation t ≡ once (repeated (map derivation us) done) → (i : ℕ) (u : Tree) → slice_get us i ≡ Some u → Derives g a (derivation u)
 options_derive g n r set a t us f f' h q i u e =
     let k : Derives g n (once (repeated (map derivation us) done)) = subst (λ v. Derives g n v) q h in
     let p : k.0 ≡ r = cc in

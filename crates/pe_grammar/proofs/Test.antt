@@ -5,13 +5,16 @@ use Rattle.std.specs.Prelude.{slice_get, bit_and, min}
 use Rattle.std.specs.List.{list_all}
 use Rattle.std.specs.Int.{bit_at}
 use Rattle.std.proofs.lemmas.Nat.Bits.{bit_at_and, bit_at-lt, bit_at-zero}
+use Rattle.pe_grammar.specs.declared.form.Bounds.{Bounds}
 use Rattle.pe_grammar.specs.declared.form.Entry.{Entry}
+use Rattle.pe_grammar.specs.Certain.{certain}
+use Rattle.std.specs.Prelude.{◌^◌, eqb}
 use Rattle.pe_grammar.specs.declared.form.Form.{Form}
 use Rattle.pe_grammar.specs.declared.form.Form.TheVariants.{Terminal, Empty, Sequence, Choice, Repeat, Clause, Once}
 use Rattle.pe_grammar.specs.Grammar.{form_at, form_in}
 use Rattle.pe_grammar.specs.Derivation.{has}
 use Rattle.pe_grammar.specs.Table.{IsDeterministic, IsSequence, IsChoice, IsRepeat, IsClause, IsOnce, SequenceFacts, ChoiceFacts, nullable, starts, rank_in}
-use Rattle.pe_grammar.specs.Test.{within, apart, where_true, all_true, sequence_tests, choice_tests, repeat_tests, clause_tests, once_tests, repeats, passes_two, passes_one, passes_form, passes_entry, passes}
+use Rattle.pe_grammar.specs.Test.{within, apart, where_true, all_true, sequence_tests, choice_tests, repeat_tests, clause_tests, once_tests, repeated_form, repeats, passes_two, passes_one, passes_form, passes_entry, passes}
 
 within_means : (x y : ℕ) → within x y ≡ true → (k : ℕ) → has x k ≡ true → has y k ≡ true
 within_means x y h k e =
@@ -127,7 +130,7 @@ repeats_form Empty h = cc
 repeats_form (Sequence a b) h = cc
 repeats_form (Choice a b) h = cc
 repeats_form (Clause w a) h = cc
-repeats_form (Once r set) h = cc
+repeats_form (Once r bounds) h = cc
 
 module _ (g : List Entry) (ok : passes g ≡ true) where
   -- the entry of a form, and that it passes
@@ -198,23 +201,28 @@ module _ (g : List Entry) (ok : passes g ≡ true) where
         left_out = λ k h. within_means p.opened e.opened t.1.1.1.1.0 k h;
       }
 
-  once_passes : (n r set : ℕ) → form_at g n ≡ Some (Once r set) → IsOnce g n r
-  once_passes n r set f =
-      let x = entry_of n (Once r set) f in
+  once_passes : (n r : ℕ) (bounds : Bounds) → form_at g n ≡ Some (Once r bounds) → IsOnce g n r bounds.needed
+  once_passes n r bounds f =
+      let x = entry_of n (Once r bounds) f in
       let e = x.0 in
-      let y = one_entry (once_tests e) (slice_get g r) x.2 in
+      let needed = bounds.needed in
+      let y = one_entry (once_tests g e needed) (slice_get g r) x.2 in
       let p = y.0 in
-      let t = each (once_tests e p) y.2 in
+      let t = each (once_tests g e needed p) y.2 in
       let in_a = inside g r p y.1 in
       let form = repeats_form p.form t.0 in
+      let start : within needed (certain e.rank g e.height form.0) ≡ true = subst (λ v. within needed (certain e.rank g e.height (repeated_form v)) ≡ true) form.1 t.1.0 in
       rw (x.1, y.1) record {
         in_a = in_a;
-        repeats = (form.0, ap (λ v. Some v) form.1);
-        null = t.1.0;
-        first = λ k h. within_means p.first e.first t.1.1.0 k h;
-        on = λ k h. within_means p.goes_on e.goes_on t.1.1.1.0 k h;
-        left_out = λ k h. within_means p.opened e.opened t.1.1.1.1.0 k h;
-        ranked = ltb-true p.rank e.rank t.1.1.1.1.1.0;
+        repeats = (form.0, ap (λ v. Some v) form.1, λ k h. within_means needed (certain e.rank g e.height form.0) start k h);
+        small = ltb-true needed (2 ^ 128) t.1.1.0;
+        null = λ z. where_means (eqb needed 0) e.nullable t.1.1.1.0 (eq-eqb needed 0 z);
+        null_back = λ u. eqb-true needed 0 (where_means e.nullable (eqb needed 0) t.1.1.1.1.0 u);
+        shut = λ k h z. apart_means p.opened needed t.1.1.1.1.1.0 k h z;
+        first = λ k h. within_means p.first e.first t.1.1.1.1.1.1.0 k h;
+        on = λ k h. within_means p.goes_on e.goes_on t.1.1.1.1.1.1.1.0 k h;
+        left_out = λ k h. within_means p.opened e.opened t.1.1.1.1.1.1.1.1.0 k h;
+        ranked = ltb-true p.rank e.rank t.1.1.1.1.1.1.1.1.1.0;
       }
 
   terminal_passes : (n k : ℕ) → form_at g n ≡ Some (Terminal k) → (starts g n k ≡ true) × (nullable g n ≡ true → ⊥)

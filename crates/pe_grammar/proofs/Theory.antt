@@ -2,15 +2,24 @@
 use Rattle.std.proofs.Common.{◌≡◌, ℕ, zero, suc, ◌+◌, ◌<◌, ◌≤◌, Bool, true, false, not, ◌&&◌, ◌||◌, List, [], ◌∷◌, ◌++◌, length, Some, None, Option, refl, sym, ap, ◌∙◌, subst, inl, inr, ◌⊎◌, append_assoc, arith, take, ◌-◌, add-one}
 use Rattle.std.proofs.lemmas.List.{append_cancel_left, append-nil, length-append}
 use Rattle.std.specs.List.{cons_option}
-use Rattle.std.proofs.lemmas.Bool.{cases_Bool}
-use Rattle.std.specs.Prelude.{slice_get}
+use Rattle.std.proofs.lemmas.Bool.{cases_Bool, eq-eqb, eqb-true, ltb-true, ltb-false, and_parts}
+use Rattle.std.specs.Prelude.{slice_get, ◌^◌, ltb, eqb, max}
+use Rattle.std.specs.List.{list_any}
+use Rattle.std.specs.Int.{bit_at}
+use Rattle.std.specs.Int.Bits.{bit_or}
+use Rattle.std.proofs.lemmas.List.Folds.{list_any-append}
+use Rattle.std.proofs.lemmas.Nat.Bits.{bit_at-zero, bit_at-lt, bit_at-pow_other, bit_at_or, bit_at_above, same_from_bits}
+use Rattle.std.specs.Prelude.{map}
+use Rattle.pe_grammar.specs.declared.tree.Tree.{Tree}
+use Rattle.pe_grammar.specs.declared.form.Bounds.{Bounds}
+use Rattle.pe_grammar.specs.Certain.{certain, certain_of, certain_in}
 use Rattle.pe_grammar.specs.declared.terminal.Token.{Token}
 use Rattle.pe_grammar.specs.declared.form.Entry.{Entry}
 use Rattle.pe_grammar.specs.declared.form.Form.{Form}
 use Rattle.pe_grammar.specs.declared.form.Form.TheVariants.{Terminal, Empty, Sequence, Choice, Repeat, Clause, Once}
-use Rattle.pe_grammar.specs.Derivation.{Derivation, leaf, nothing, pair, left, right, done, more, present, absent, once, heads, IsFresh, has, taken, text, front, IsNear, LeavesOut}
+use Rattle.pe_grammar.specs.Derivation.{Derivation, derivation, repeated, leaf, nothing, pair, left, right, done, more, present, absent, once, heads, IsFresh, HasEach, has, taken, text, front, IsNear, LeavesOut}
 use Rattle.pe_grammar.specs.Grammar.{Derives, Spells, IsViable, form_at, form_in, IsFault}
-use Rattle.pe_grammar.specs.Table.{IsDeterministic, IsSequence, IsChoice, IsRepeat, nullable, starts, opened, rank, height}
+use Rattle.pe_grammar.specs.Table.{IsDeterministic, IsSequence, IsChoice, IsRepeat, nullable, starts, opened, rank, height, height_in}
 use Rattle.pe_grammar.specs.Reading.{Stops, Reads, Refuses, IsRefused, IsStop, ReadsOnce, RefusesOnce, IsStopOnce, starts_at, goes_left}
 use Rattle.pe_grammar.specs.declared.failure.Stop.{Stop}
 use Rattle.pe_grammar.specs.declared.failure.Stop.TheVariants.{Memory, Left}
@@ -123,6 +132,124 @@ near_nil d xs e = λ k f o. let q : None ≡ Some k = ap front (sym e) ∙ f in 
 clause_part : (g : List Entry) (n w a : ℕ) (t : Token) (d : Derivation) → form_at g n ≡ Some (Clause w a) → Derives g n (present t d) → Derives g a d
 clause_part g n w a t d f h = let p : h.1 ≡ a = cc in subst (λ v. Derives g v d) p h.4
 
+-- the sets of numbers
+zero_none : (n k : ℕ) → n ≡ 0 → has n k ≡ true → ⊥
+zero_none n k z h =
+    let q : bit_at n k ≡ 1 = eqb-true (bit_at n k) 1 h in
+    let p : bit_at n k ≡ 0 = ap (λ v. bit_at v k) z ∙ bit_at-zero k in
+    absurd (omega arith)
+
+none_zero : (n : ℕ) → ((k : ℕ) → has n k ≡ true → ⊥) → n ≡ 0
+none_zero n h = same_from_bits n 0 (λ i. no_bit (bit_at n i) (bit_at-lt n i) (λ e. h i (eq-eqb (bit_at n i) 1 e)) ∙ sym (bit_at-zero i))
+  where
+    no_bit : (m : ℕ) → m < 2 → (m ≡ 1 → ⊥) → m ≡ 0
+    no_bit zero l z = refl
+    no_bit (suc zero) l z = absurd (z refl)
+    no_bit (suc (suc m)) l z = absurd (omega arith)
+
+power_has : (j k : ℕ) → has (2 ^ j) k ≡ true → j ≡ k
+power_has j k h = elim (cases_Bool (eqb k j)) [
+  | inl e ↦ sym (eqb-true k j e)
+  | inr e ↦
+      let q : bit_at (2 ^ j) k ≡ 1 = eqb-true (bit_at (2 ^ j) k) 1 h in
+      let other : k ≡ j → ⊥ = λ z. let y : eqb k j ≡ true = eq-eqb k j z in cc in
+      let p : bit_at (2 ^ j) k ≡ 0 = bit_at-pow_other j k other in
+      absurd (omega arith)
+]
+
+or_has : (x y k : ℕ) → has (bit_or x y) k ≡ true → (has x k ≡ true) ⊎ (has y k ≡ true)
+or_has x y k h =
+    let q : bit_at (bit_or x y) k ≡ 1 = eqb-true (bit_at (bit_or x y) k) 1 h in
+    elim (one_of (bit_at x k) (bit_at y k) (sym (bit_at_or x y k) ∙ q)) [ inl p ↦ inl (eq-eqb (bit_at x k) 1 p) | inr p ↦ inr (eq-eqb (bit_at y k) 1 p) ]
+  where
+    one_of : (m n : ℕ) → max m n ≡ 1 → (m ≡ 1) ⊎ (n ≡ 1)
+    one_of m n e = elim (cases_Bool (eqb m 1)) [
+      | inl p ↦ inl (eqb-true m 1 p)
+      | inr p ↦ elim (cases_Bool (eqb n 1)) [
+        | inl q ↦ inr (eqb-true n 1 q)
+        | inr q ↦
+            let u : m ≡ 1 → ⊥ = λ z. let y : eqb m 1 ≡ true = eq-eqb m 1 z in cc in
+            let v : n ≡ 1 → ⊥ = λ z. let y : eqb n 1 ≡ true = eq-eqb n 1 z in cc in
+            absurd (omega (arith, u, v))
+      ]
+    ]
+
+pub below_bound : (n k : ℕ) → n < 2 ^ 128 → has n k ≡ true → k < 128
+below_bound n k small h = elim (cases_Bool (ltb k 128)) [
+  | inl e ↦ ltb-true k 128 e
+  | inr e ↦
+      let q : bit_at n k ≡ 1 = eqb-true (bit_at n k) 1 h in
+      let p : bit_at n k ≡ 0 = bit_at_above n 128 k small (ltb-false k 128 e) in
+      absurd (omega arith)
+]
+
+below_or : (k bound : ℕ) → k < suc bound → (k < bound) ⊎ (k ≡ bound)
+below_or zero zero l = inr refl
+below_or zero (suc b) l = inl (omega arith)
+below_or (suc k) zero l = absurd (omega arith)
+below_or (suc k) (suc b) l = elim (below_or k b (omega arith)) [ inl p ↦ inl (omega arith) | inr q ↦ inr (ap suc q) ]
+
+-- the heads of a list
+abbrev Comes : List ℕ → ℕ → Bool
+Comes ks k = list_any (λ y. eqb y k) ks
+
+or_true_left : (x y : Bool) → x ≡ true → (x || y) ≡ true
+or_true_left true y h = refl
+or_true_left false y h = cc
+
+or_true_right : (x y : Bool) → y ≡ true → (x || y) ≡ true
+or_true_right true y h = refl
+or_true_right false y h = h
+
+comes_before : (ks js : List ℕ) (k : ℕ) → Comes ks k ≡ true → Comes (ks ++ js) k ≡ true
+comes_before ks js k h = list_any-append (λ y. eqb y k) ks js ∙ or_true_left (Comes ks k) (Comes js k) h
+
+comes_last : (ks : List ℕ) (k : ℕ) → Comes (ks ++ k ∷ []) k ≡ true
+comes_last ks k = list_any-append (λ y. eqb y k) ks (k ∷ []) ∙ or_true_right (Comes ks k) (Comes (k ∷ []) k) (or_true_left (eqb k k) (Comes [] k) (eq-eqb k k refl))
+
+cons_append : (o : Option ℕ) (xs ys : List ℕ) → cons_option o (xs ++ ys) ≡ cons_option o xs ++ ys
+cons_append None xs ys = refl
+cons_append (Some x) xs ys = refl
+
+pub heads_push : (ts : List Tree) (t : Tree) (k : ℕ) → front (text (derivation t)) ≡ Some k → heads (repeated (map derivation (ts ++ t ∷ [])) done) ≡ heads (repeated (map derivation ts) done) ++ k ∷ []
+heads_push [] t k h = ap (λ o. cons_option o []) h
+heads_push (u ∷ ts) t k h =
+    ap (λ ks. cons_option (front (text (derivation u))) ks) (heads_push ts t k h)
+    ∙ cons_append (front (text (derivation u))) (heads (repeated (map derivation ts) done)) (k ∷ [])
+
+fresh_append : (set : ℕ) (used ks : List ℕ) (k : ℕ) → IsFresh set used ks → (taken set (used ++ ks) k ≡ true → ⊥) → IsFresh set used (ks ++ k ∷ [])
+fresh_append set used [] k h z = (λ t. z (subst (λ us. taken set us k ≡ true) (sym (append-nil used)) t), tt)
+fresh_append set used (j ∷ ks) k h z = (h.0, fresh_append set (used ++ j ∷ []) ks k h.1 (λ t. z (subst (λ us. taken set us k ≡ true) (append_assoc used (j ∷ []) ks) t)))
+
+no_heads : (d : Derivation) → text d ≡ [] → heads d ≡ []
+no_heads (more d e) h = ap (λ o. cons_option o (heads e)) (ap front (left_nil (text d) (text e) h)) ∙ no_heads e (right_nil (text d) (text e) h)
+no_heads (leaf t) h = refl
+no_heads nothing h = refl
+no_heads (pair d e) h = refl
+no_heads (left d) h = refl
+no_heads (right d) h = refl
+no_heads done h = refl
+no_heads (present t d) h = refl
+no_heads (absent k) h = refl
+no_heads (once d) h = refl
+
+front_left : (xs ys : List Token) (k : ℕ) → front xs ≡ Some k → front (xs ++ ys) ≡ Some k
+front_left [] ys k h = cc
+front_left (x ∷ xs) ys k h = h
+
+-- the list with one more at its end
+abbrev extended : Derivation → Derivation → Derivation
+extended (more d e) z = more d (extended e z)
+extended done z = more z done
+extended (leaf t) z = leaf t
+extended nothing z = nothing
+extended (pair d e) z = pair d e
+extended (left d) z = left d
+extended (right d) z = right d
+extended (present t d) z = present t d
+extended (absent k) z = absent k
+extended (once d) z = once d
+
 module _ (g : List Entry) (ok : IsDeterministic g) where
   pub empty_null : (d : Derivation) (n : ℕ) → Derives g n d → text d ≡ [] → nullable g n ≡ true
   empty_null (leaf t) n h e = cc
@@ -136,7 +263,9 @@ module _ (g : List Entry) (ok : IsDeterministic g) where
   empty_null done n h e = (ok.«repeat» n h.0 h.1).null
   empty_null (more d c) n h e = (ok.«repeat» n h.0 h.1).null
   empty_null (present t d) n h e = cc
-  empty_null (once d) n h e = (ok.once_more n h.0 h.1 h.2).null
+  empty_null (once d) n h e =
+      let needs : HasEach h.1.needed [] = subst (λ ks. HasEach h.1.needed ks) (no_heads d e) h.5 in
+      (ok.once_more n h.0 h.1 h.2).null (none_zero h.1.needed (λ k f. let q = needs k f in cc))
   empty_null (absent k) n h e = (ok.clause n k h.0 h.1).null
 
   pub begins : (d : Derivation) (n : ℕ) → Derives g n d → (k : ℕ) → front (text d) ≡ Some k → starts g n k ≡ true
@@ -349,7 +478,10 @@ module _ (g : List Entry) (ok : IsDeterministic g) where
       ]
   empty_form n bound h z given (Repeat a) f = (done, (a, f), refl)
   empty_form n bound h z given (Clause w a) f = (absent w, (a, f), refl)
-  empty_form n bound h z given (Once r set) f = let x = (ok.once_more n r set f).repeats in (once done, (r, set, f, (x.0, x.1), tt), refl)
+  empty_form n bound h z given (Once r set) f =
+      let s = ok.once_more n r set f in
+      let x = s.repeats in
+      (once done, (r, set, f, (x.0, x.1), tt, λ k e. absurd (zero_none set.needed k (s.null_back z) e)), refl)
 
   empty_entry : (n bound : ℕ) → rank g n < suc bound → n < length g → nullable g n ≡ true → ((m : ℕ) → rank g m < bound → m < length g → nullable g m ≡ true → (d : Derivation) × Derives g m d × (text d ≡ [])) →
       (o : Option Entry) → slice_get g n ≡ o → (d : Derivation) × Derives g n d × (text d ≡ [])
@@ -369,6 +501,120 @@ module _ (g : List Entry) (ok : IsDeterministic g) where
     | inl v ↦ let x = empty_example b s.in_b v in (x.0, x.1, near_nil d (text x.0) x.2)
     | inr v ↦ (given.0, given.1, λ k f o. v k (left_out_opened d a h k o) (begins given.0 b given.1 k f))
   ]
+
+  -- lists of options that lack some
+  extend : (r a : ℕ) → form_at g r ≡ Some (Repeat a) → (z : Derivation) → Derives g a z → (k : ℕ) → front (text z) ≡ Some k →
+      (d : Derivation) → Derives g r d → (LeavesOut d k → ⊥) → Derives g r (extended d z) × (text (extended d z) ≡ text d ++ text z) × (heads (extended d z) ≡ heads d ++ k ∷ [])
+  extend r a f z hz k fz done h shut = ((a, f, hz, (a, f), λ j fj o. cc), append-nil (text z), ap (λ o. cons_option o []) fz)
+  extend r a f z hz k fz (more d e) h shut =
+      let parts = more_parts g r a d e f h in
+      let x = extend r a f z hz k fz e parts.1 (λ o. shut (inl o)) in
+      let near : IsNear d (text (extended e z)) = λ j fj o. elim (front_append (text e) (text z) j (ap front (sym x.1) ∙ fj)) [
+        | inl p ↦ parts.2 j p o
+        | inr p ↦ let fk = p.1 in let q : j ≡ k = cc in shut (inr (p.0, subst (λ v. LeavesOut d v) q o))
+      ] in (
+        (a, f, parts.0, x.0, near),
+        ap (λ v. text d ++ v) x.1 ∙ sym (append_assoc (text d) (text e) (text z)),
+        ap (λ ks. cons_option (front (text d)) ks) x.2 ∙ cons_append (front (text d)) (heads e) (k ∷ []),
+      )
+  extend r a f z hz k fz (leaf t) h shut = cc
+  extend r a f z hz k fz nothing h shut = cc
+  extend r a f z hz k fz (pair d e) h shut = let p = h.2 in cc
+  extend r a f z hz k fz (left d) h shut = let p = h.2 in cc
+  extend r a f z hz k fz (right d) h shut = let p = h.2 in cc
+  extend r a f z hz k fz (present t d) h shut = let p = h.2 in cc
+  extend r a f z hz k fz (absent w) h shut = let p = h.1 in cc
+  extend r a f z hz k fz (once d) h shut = let p = h.2 in cc
+
+  -- d goes on to a list that has the needed ones below the bound
+  abbrev Filled : ℕ → ℕ → ℕ → Derivation → ℕ → Type 0
+  Filled r set needed d bound = (after : List Token) × (c : Derivation) × Derives g r c × IsFresh set [] (heads c) × (text c ≡ text d ++ after) × ((k : ℕ) → k < bound → has needed k ≡ true → Comes (heads c) k ≡ true)
+
+  fill_one : (r a set needed : ℕ) → form_at g r ≡ Some (Repeat a) → ((k : ℕ) → has needed k ≡ true → (z : Derivation) × Derives g a z × (front (text z) ≡ Some k)) →
+      ((k : ℕ) → opened g r k ≡ true → has needed k ≡ true → ⊥) → (d : Derivation) (bound : ℕ) → Filled r set needed d bound → Filled r set needed d (suc bound)
+  fill_one r a set needed f start shut d bound x = elim (cases_Bool (has needed bound)) [
+    | inr free ↦ (
+      x.0,
+      x.1,
+      x.2,
+      x.3,
+      x.4,
+      λ k l e. elim (below_or k bound l) [ inl p ↦ x.5 k p e | inr q ↦ let w : has needed k ≡ has needed bound = ap (has needed) q in cc ],
+    )
+    | inl holds ↦ elim (cases_Bool (Comes (heads x.1) bound)) [
+      | inl there ↦ (
+        x.0,
+        x.1,
+        x.2,
+        x.3,
+        x.4,
+        λ k l e. elim (below_or k bound l) [ inl p ↦ x.5 k p e | inr q ↦ subst (λ v. Comes (heads x.1) v ≡ true) (sym q) there ],
+      )
+      | inr lacks ↦
+          let z = start bound holds in
+          let y = extend r a f z.0 z.1 bound z.2 x.1 x.2 (λ o. shut bound (left_out_opened x.1 r x.2 bound o) holds) in
+          let untaken : taken set (heads x.1) bound ≡ true → ⊥ = λ t. let u = (and_parts (has set bound) (Comes (heads x.1) bound) t).1 in cc in (
+            x.0 ++ text z.0,
+            extended x.1 z.0,
+            y.0,
+            subst (λ ks. IsFresh set [] ks) (sym y.2) (fresh_append set [] (heads x.1) bound x.3 untaken),
+            y.1 ∙ ap (λ v. v ++ text z.0) x.4 ∙ append_assoc (text d) x.0 (text z.0),
+            λ k l e. subst (λ ks. Comes ks k ≡ true) (sym y.2) (elim (below_or k bound l) [
+              | inl p ↦ comes_before (heads x.1) (bound ∷ []) k (x.5 k p e)
+              | inr q ↦ subst (λ v. Comes (heads x.1 ++ bound ∷ []) v ≡ true) (sym q) (comes_last (heads x.1) bound)
+            ]),
+          )
+    ]
+  ]
+
+  fill : (r a set needed : ℕ) → form_at g r ≡ Some (Repeat a) → ((k : ℕ) → has needed k ≡ true → (z : Derivation) × Derives g a z × (front (text z) ≡ Some k)) →
+      ((k : ℕ) → opened g r k ≡ true → has needed k ≡ true → ⊥) → (d : Derivation) → Derives g r d → IsFresh set [] (heads d) → (bound : ℕ) → Filled r set needed d bound
+  fill r a set needed f start shut d h fresh zero = ([], d, h, fresh, sym (append-nil (text d)), λ k l e. absurd (omega arith))
+  fill r a set needed f start shut d h fresh (suc bound) = fill_one r a set needed f start shut d bound (fill r a set needed f start shut d h fresh bound)
+
+  certain_form : (limit : ℕ) (part : ℕ → ℕ) → ((m : ℕ) → height g m < limit → m < length g → (d : Derivation) × Derives g m d) →
+      ((m k : ℕ) → has (part m) k ≡ true → (z : Derivation) × Derives g m z × (front (text z) ≡ Some k)) →
+      (n k : ℕ) (low : Bool) → (low ≡ true → height g n < limit) → (form : Form) → form_at g n ≡ Some form → has (certain_of part low form) k ≡ true →
+      (z : Derivation) × Derives g n z × (front (text z) ≡ Some k)
+  certain_form limit part given again n k low under (Terminal j) f e = (leaf (record { kind = j; place = 0 }), f, ap (λ v. Some v) (power_has j k e))
+  certain_form limit part given again n k low under Empty f e = absurd (zero_none 0 k refl e)
+  certain_form limit part given again n k true under (Sequence a b) f e =
+      let s = ok.sequence n a b f in
+      let lower = under refl in
+      let above = s.higher_after in
+      let x = again a k e in
+      let z = second_example n a b s x.0 x.1 (given b (omega arith) s.in_b) in
+      (pair x.0 z.0, (a, b, f, x.1, z.1, z.2), front_left (text x.0) (text z.0) k x.2)
+  certain_form limit part given again n k false under (Sequence a b) f e = absurd (zero_none 0 k refl e)
+  certain_form limit part given again n k low under (Choice a b) f e = elim (or_has (part a) (part b) k e) [
+    | inl p ↦ let x = again a k p in (left x.0, (a, b, f, x.1), x.2)
+    | inr p ↦ let x = again b k p in (right x.0, (a, b, f, x.1), x.2)
+  ]
+  certain_form limit part given again n k low under (Repeat a) f e = absurd (zero_none 0 k refl e)
+  certain_form limit part given again n k low under (Clause w a) f e = absurd (zero_none 0 k refl e)
+  certain_form limit part given again n k low under (Once r set) f e = absurd (zero_none 0 k refl e)
+
+  certain_entry : (limit : ℕ) (part : ℕ → ℕ) → ((m : ℕ) → height g m < limit → m < length g → (d : Derivation) × Derives g m d) →
+      ((m k : ℕ) → has (part m) k ≡ true → (z : Derivation) × Derives g m z × (front (text z) ≡ Some k)) →
+      (n k : ℕ) (o : Option Entry) → slice_get g n ≡ o → has (certain_in part limit o) k ≡ true → (z : Derivation) × Derives g n z × (front (text z) ≡ Some k)
+  certain_entry limit part given again n k None q e = absurd (zero_none 0 k refl e)
+  certain_entry limit part given again n k (Some entry) q e =
+      certain_form limit part given again n k (ltb entry.height limit)
+      (λ l. subst (λ v. v < limit) (sym (ap height_in q)) (ltb-true entry.height limit l)) entry.form (ap form_in q) e
+
+  certain_derives : (steps limit : ℕ) → ((m : ℕ) → height g m < limit → m < length g → (d : Derivation) × Derives g m d) →
+      (n k : ℕ) → has (certain steps g limit n) k ≡ true → (z : Derivation) × Derives g n z × (front (text z) ≡ Some k)
+  certain_derives zero limit given n k e = absurd (zero_none 0 k refl e)
+  certain_derives (suc steps) limit given n k e = certain_entry limit (λ m. certain steps g limit m) given (λ m j p. certain_derives steps limit given m j p) n k (slice_get g n) refl e
+
+  filled : (n r : ℕ) (set : Bounds) → form_at g n ≡ Some (Once r set) → ((m : ℕ) → height g m < height g n → m < length g → (d : Derivation) × Derives g m d) →
+      (d : Derivation) → Derives g r d → IsFresh set.once [] (heads d) →
+      (after : List Token) × (c : Derivation) × Derives g r c × IsFresh set.once [] (heads c) × (text c ≡ text d ++ after) × HasEach set.needed (heads c)
+  filled n r set f given d h fresh =
+      let s = ok.once_more n r set f in
+      let a = s.repeats in
+      let x = fill r a.0 set.once set.needed a.1 (λ k e. certain_derives (rank g n) (height g n) given a.0 k (a.2 k e)) s.shut d h fresh 128 in
+      (x.0, x.1, x.2, x.3, x.4, λ k e. x.5 k (below_bound set.needed k s.small e) e)
 
   -- each form has a text
   form_example : (n bound : ℕ) → height g n < suc bound → ((m : ℕ) → height g m < bound → m < length g → (d : Derivation) × Derives g m d) →
@@ -391,7 +637,10 @@ module _ (g : List Entry) (ok : IsDeterministic g) where
       ]
   form_example n bound h given (Repeat a) f = (done, (a, f))
   form_example n bound h given (Clause w a) f = (absent w, (a, f))
-  form_example n bound h given (Once r set) f = let x = (ok.once_more n r set f).repeats in (once done, (r, set, f, (x.0, x.1), tt))
+  form_example n bound h given (Once r set) f =
+      let a = (ok.once_more n r set f).repeats in
+      let x = filled n r set f (λ m l w. given m (omega arith) w) done (a.0, a.1) tt in
+      (once x.1, (r, set, f, x.2, x.3, x.5))
 
   entry_example : (n bound : ℕ) → height g n < suc bound → n < length g → ((m : ℕ) → height g m < bound → m < length g → (d : Derivation) × Derives g m d) →
       (o : Option Entry) → slice_get g n ≡ o → (d : Derivation) × Derives g n d
@@ -787,6 +1036,9 @@ module _ (g : List Entry) (ok : IsDeterministic g) where
   fresh_parts : (set : ℕ) (used : List ℕ) (d e : Derivation) (k : ℕ) → front (text d) ≡ Some k → IsFresh set used (heads (more d e)) → (taken set used k ≡ true → ⊥) × IsFresh set (used ++ k ∷ []) (heads e)
   fresh_parts set used d e k f h = let r : IsFresh set used (k ∷ heads e) = subst (λ ks. IsFresh set used ks) (heads_more d e k f) h in (r.0, r.1)
 
+  pub head_is : (n a : ℕ) (d : Derivation) (tokens mid : List Token) (k : ℕ) → form_at g n ≡ Some (Repeat a) → Reads g a tokens d mid → front tokens ≡ Some k → front (text d) ≡ Some k
+  head_is n a d tokens mid k f x t = head_of d a tokens mid k (ok.«repeat» n a f).not_null x.derives x.split t
+
   pub once_done : (n a set : ℕ) (used : List ℕ) (tokens : List Token) → form_at g n ≡ Some (Repeat a) → starts_at g a tokens ≡ false → ReadsOnce g n set used tokens done tokens
   once_done n a set used tokens f l =
       let x = reads_done n a tokens f l in
@@ -910,15 +1162,15 @@ module _ (g : List Entry) (ok : IsDeterministic g) where
       again_none (left c) after v h fr st nr u w = let p = h.2 in cc
       again_none (right c) after v h fr st nr u w = let p = h.2 in cc
 
-  once_part : (n r set : ℕ) (d : Derivation) → form_at g n ≡ Some (Once r set) → Derives g n (once d) → Derives g r d × IsFresh set [] (heads d)
+  once_part : (n r : ℕ) (set : Bounds) (d : Derivation) → form_at g n ≡ Some (Once r set) → Derives g n (once d) → Derives g r d × IsFresh set.once [] (heads d) × HasEach set.needed (heads d)
   once_part n r set d f h =
       let p : h.0 ≡ r = cc in
       let q : h.1 ≡ set = cc in
-      (subst (λ v. Derives g v d) p h.3, subst (λ v. IsFresh v [] (heads d)) q h.4)
+      (subst (λ v. Derives g v d) p h.3, subst (λ v. IsFresh v.once [] (heads d)) q h.4, subst (λ v. HasEach v.needed (heads d)) q h.5)
 
-  pub reads_once : (n r set : ℕ) (tokens rest : List Token) (d : Derivation) → form_at g n ≡ Some (Once r set) → ReadsOnce g r set [] tokens d rest → Reads g n tokens (once d) rest
-  reads_once n r set tokens rest d f x = record {
-    derives = (r, set, f, x.derives, x.fresh);
+  pub reads_once : (n r : ℕ) (set : Bounds) (tokens rest : List Token) (d : Derivation) → form_at g n ≡ Some (Once r set) → ReadsOnce g r set.once [] tokens d rest → HasEach set.needed (heads d) → Reads g n tokens (once d) rest
+  reads_once n r set tokens rest d f x needs = record {
+    derives = (r, set, f, x.derives, x.fresh, needs);
     split = x.split;
     near = x.near;
     only = once_only;
@@ -939,10 +1191,17 @@ module _ (g : List Entry) (ok : IsDeterministic g) where
       once_only done after y h st nr u w = let p = h.1 in cc
       once_only (more c c') after y h st nr u w = let p = h.1 in cc
 
-  refuses_once : (n r set : ℕ) (tokens before rest : List Token) → form_at g n ≡ Some (Once r set) → RefusesOnce g r set [] tokens before rest → Refuses g n tokens before rest
+  refuses_once : (n r : ℕ) (set : Bounds) (tokens before rest : List Token) → form_at g n ≡ Some (Once r set) → RefusesOnce g r set.once [] tokens before rest → Refuses g n tokens before rest
   refuses_once n r set tokens before rest f x = record {
     split = x.split;
-    viable = (let v = x.viable in (v.0, once v.1, record { derives = (r, set, f, v.2, v.3); spelled = v.4 }));
+    viable = (
+        let v = x.viable in
+        let y = filled n r set f (λ m l w. example m w) v.1 v.2 v.3 in (
+          v.0 ++ y.0,
+          once y.1,
+          record { derives = (r, set, f, y.2, y.3, y.5); spelled = y.4 ∙ ap (λ u. u ++ y.0) v.4 ∙ append_assoc before v.0 y.0 },
+        )
+        );
     none = once_none;
   }
     where
@@ -960,7 +1219,33 @@ module _ (g : List Entry) (ok : IsDeterministic g) where
       once_none done after y h st nr u w = let p = h.1 in cc
       once_none (more c c') after y h st nr u w = let p = h.1 in cc
 
-  pub stop_once : (n r set : ℕ) (tokens : List Token) → form_at g n ≡ Some (Once r set) → (e : Stop) → IsStopOnce g r set [] tokens e → IsStop g n tokens e
+  -- a list that lacks a needed option is refused at the token after it
+  refuses_lacking : (n r : ℕ) (set : Bounds) (tokens rest : List Token) (d : Derivation) → form_at g n ≡ Some (Once r set) → ReadsOnce g r set.once [] tokens d rest → (HasEach set.needed (heads d) → ⊥) → Refuses g n tokens (text d) rest
+  refuses_lacking n r set tokens rest d f x lacks = record {
+    split = x.split;
+    viable = (let y = filled n r set f (λ m l w. example m w) d x.derives x.fresh in (y.0, once y.1, record { derives = (r, set, f, y.2, y.3, y.5); spelled = y.4 }));
+    none = lacking_none;
+  }
+    where
+      lacking_none : (other : Derivation) (after y : List Token) → Derives g n other → Stops g n after → IsNear other after → text other ++ after ≡ text d ++ y → front y ≡ front rest → ⊥
+      lacking_none (once c) after y h st nr u w =
+          let parts = once_part n r set c f h in
+          let q : c ≡ d = x.only c after y parts.0 parts.1 (λ k fk o. st k fk ((ok.once_more n r set f).on k o)) nr u w in
+          lacks (subst (λ v. HasEach set.needed (heads v)) q parts.2)
+      lacking_none (leaf t) after y h st nr u w = cc
+      lacking_none nothing after y h st nr u w = cc
+      lacking_none (present t c) after y h st nr u w = let p = h.2 in cc
+      lacking_none (absent k) after y h st nr u w = let p = h.1 in cc
+      lacking_none (pair c c') after y h st nr u w = let p = h.2 in cc
+      lacking_none (left c) after y h st nr u w = let p = h.2 in cc
+      lacking_none (right c) after y h st nr u w = let p = h.2 in cc
+      lacking_none done after y h st nr u w = let p = h.1 in cc
+      lacking_none (more c c') after y h st nr u w = let p = h.1 in cc
+
+  pub lacking_stops : (n r : ℕ) (set : Bounds) (tokens rest : List Token) (d : Derivation) → form_at g n ≡ Some (Once r set) → ReadsOnce g r set.once [] tokens d rest → (HasEach set.needed (heads d) → ⊥) → IsStop g n tokens (Left (length rest))
+  lacking_stops n r set tokens rest d f x lacks = (text d, rest, refl, refuses_lacking n r set tokens rest d f x lacks)
+
+  pub stop_once : (n r : ℕ) (set : Bounds) (tokens : List Token) → form_at g n ≡ Some (Once r set) → (e : Stop) → IsStopOnce g r set.once [] tokens e → IsStop g n tokens e
   stop_once n r set tokens f Memory h = tt
   stop_once n r set tokens f (Left k) h = (h.0, h.1, h.2, refuses_once n r set tokens h.0 h.1 f h.3)
 
@@ -1044,7 +1329,7 @@ module _ (g : List Entry) (ok : IsDeterministic g) where
         split = x.split;
         near = x.near;
         only = λ other after y i fr sa na u w. x.only other after y i sa na u w;
-      }
+      } h.5
 
   pub unique : (n : ℕ) (tokens : List Token) (d e : Derivation) → Spells g n tokens d → Spells g n tokens e → d ≡ e
   unique n tokens d e p q =

@@ -94,6 +94,10 @@ heads (once d) = []
 abbrev pub taken : ℕ → List ℕ → ℕ → Bool
 taken set used k = has set k && list_any (λ y. eqb y k) used
 
+-- each of the set comes
+abbrev pub HasEach : ℕ → List ℕ → Type 0
+HasEach needed ks = (k : ℕ) → has needed k ≡ true → list_any (λ y. eqb y k) ks ≡ true
+
 -- none of the set comes that is used already, or comes again
 abbrev pub IsFresh : ℕ → List ℕ → List ℕ → Type 0
 IsFresh set used [] = Unit {0}

@@ -3,11 +3,12 @@ use Rattle.std.specs.Prelude.{◌≡◌, ℕ, ◌<◌, ◌≤◌, ◌+◌, true,
 use Rattle.pe_grammar.specs.declared.terminal.Token.{Token}
 use Rattle.pe_grammar.specs.declared.failure.Failure.{Failure}
 use Rattle.pe_grammar.specs.declared.failure.Failure.TheVariants as failure
+use Rattle.pe_grammar.specs.declared.form.Bounds.{Bounds}
 use Rattle.pe_grammar.specs.declared.form.Entry.{Entry}
 use Rattle.pe_grammar.specs.declared.form.Form.{Form}
 use Rattle.pe_grammar.specs.declared.form.Form.TheVariants.{Terminal, Empty, Sequence, Choice, Repeat, Clause, Once}
 use Rattle.pe_grammar.specs.declared.tree.Tree.{Tree}
-use Rattle.pe_grammar.specs.Derivation.{Derivation, derivation, leaf, nothing, pair, left, right, done, more, present, absent, once, text, heads, has, IsFresh, IsNear}
+use Rattle.pe_grammar.specs.Derivation.{Derivation, derivation, leaf, nothing, pair, left, right, done, more, present, absent, once, text, heads, has, IsFresh, HasEach, IsNear}
 
 abbrev pub form_in : Option Entry → Option Form
 form_in None = None
@@ -27,7 +28,7 @@ Derives g n done = (a : ℕ) × (form_at g n ≡ Some (Repeat a))
 Derives g n (more d e) = (a : ℕ) × (form_at g n ≡ Some (Repeat a)) × Derives g a d × Derives g n e × IsNear d (text e)
 Derives g n (present t d) = (set : ℕ) × (a : ℕ) × (form_at g n ≡ Some (Clause set a)) × (has set t.kind ≡ true) × Derives g a d
 Derives g n (absent k) = (a : ℕ) × (form_at g n ≡ Some (Clause k a))
-Derives g n (once d) = (r : ℕ) × (set : ℕ) × (form_at g n ≡ Some (Once r set)) × Derives g r d × IsFresh set [] (heads d)
+Derives g n (once d) = (r : ℕ) × (bounds : Bounds) × (form_at g n ≡ Some (Once r bounds)) × Derives g r d × IsFresh bounds.once [] (heads d) × HasEach bounds.needed (heads d)
 
 -- the tokens spell d, a derivation of the form n
 pub record Spells (g : List Entry) (n : ℕ) (tokens : List Token) (d : Derivation) : Type 0 where

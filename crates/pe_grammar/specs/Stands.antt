@@ -1,5 +1,6 @@
 -- The test that a table is a grammar as it is written.
 use Rattle.std.specs.Prelude.{ℕ, Bool, true, false, ◌&&◌, eqb, List, [], ◌∷◌, Option, Some, slice_get, is_some, suc}
+use Rattle.pe_grammar.specs.declared.form.Bounds.{Bounds}
 use Rattle.pe_grammar.specs.declared.form.Entry.{Entry}
 use Rattle.pe_grammar.specs.declared.form.Form.{Form}
 use Rattle.pe_grammar.specs.declared.form.Form.TheVariants.{Terminal, Empty, Sequence, Choice, Repeat, Clause, Once}
@@ -31,7 +32,7 @@ abbrev pub at_clause : Option Form → (ℕ → ℕ → Bool) → Bool
 at_clause (Some (Clause w i)) f = f w i
 at_clause _ f = false
 
-abbrev pub at_once : Option Form → (ℕ → ℕ → Bool) → Bool
+abbrev pub at_once : Option Form → (ℕ → Bounds → Bool) → Bool
 at_once (Some (Once i s)) f = f i s
 at_once _ f = false
 
@@ -44,7 +45,7 @@ stands g rs n (both a b) = at_sequence (form_at g n) (λ i j. stands g rs i a &&
 stands g rs n (either a b) = at_choice (form_at g n) (λ i j. stands g rs i a && stands g rs j b)
 stands g rs n (many a) = at_repeat (form_at g n) (λ i. stands g rs i a)
 stands g rs n (nearest w a) = at_clause (form_at g n) (λ v i. eqb v w && stands g rs i a)
-stands g rs n (each_once set a) = at_once (form_at g n) (λ i s. eqb s set && at_repeat (form_at g i) (λ j. stands g rs j a))
+stands g rs n (each_once set a) = at_once (form_at g n) (λ i s. (eqb s.once set.once && eqb s.needed set.needed) && at_repeat (form_at g i) (λ j. stands g rs j a))
 
 abbrev pub is_body : Written → Bool
 is_body (rule r) = false

@@ -1,8 +1,10 @@
 -- What makes one token of look-ahead enough, as facts of a grammar's table.
-use Rattle.std.specs.Prelude.{◌≡◌, ℕ, ◌<◌, Bool, true, false, length, List, ◌⊎◌, slice_get, Option, Some, None}
+use Rattle.std.specs.Prelude.{◌≡◌, ℕ, ◌<◌, ◌^◌, Bool, true, false, length, List, ◌⊎◌, slice_get, Option, Some, None}
+use Rattle.pe_grammar.specs.declared.form.Bounds.{Bounds}
 use Rattle.pe_grammar.specs.declared.form.Entry.{Entry}
 use Rattle.pe_grammar.specs.declared.form.Form.TheVariants.{Terminal, Empty, Sequence, Choice, Repeat, Clause, Once}
 use Rattle.pe_grammar.specs.Derivation.{has}
+use Rattle.pe_grammar.specs.Certain.{certain}
 use Rattle.pe_grammar.specs.Grammar.{form_in, form_at}
 
 -- The terminals after which a text that could end may go on, those that begin it, and the rest of the table.
@@ -112,17 +114,20 @@ pub record ClauseFacts (g : List Entry) (w i : ℕ) (n a : Option Entry) : Type 
   pub word : IsWithin (has w) (opened_in n)
   pub left_out : IsWithin (opened_in a) (opened_in n)
 
-pub record OnceFacts (g : List Entry) (i : ℕ) (n a : Option Entry) : Type 0 where
+pub record OnceFacts (g : List Entry) (i needed : ℕ) (n a : Option Entry) : Type 0 where
   pub in_a : i < length g
-  pub repeats : (c : ℕ) × (form_in a ≡ Some (Repeat c))
-  pub null : nullable_in n ≡ true
+  pub repeats : (c : ℕ) × (form_in a ≡ Some (Repeat c)) × IsWithin (has needed) (has (certain (rank_in n) g (height_in n) c))
+  pub small : needed < 2 ^ 128
+  pub null : needed ≡ 0 → nullable_in n ≡ true
+  pub null_back : nullable_in n ≡ true → needed ≡ 0
   pub first : IsWithin (starts_in a) (starts_in n)
   pub on : IsWithin (goes_on_in a) (goes_on_in n)
   pub left_out : IsWithin (opened_in a) (opened_in n)
+  pub shut : AreApart (opened_in a) (has needed)
   pub ranked : rank_in a < rank_in n
 
-abbrev pub IsOnce : List Entry → ℕ → ℕ → Type 0
-IsOnce g n a = OnceFacts g a (slice_get g n) (slice_get g a)
+abbrev pub IsOnce : List Entry → ℕ → ℕ → ℕ → Type 0
+IsOnce g n a needed = OnceFacts g a needed (slice_get g n) (slice_get g a)
 
 abbrev pub IsSequence : List Entry → ℕ → ℕ → ℕ → Type 0
 IsSequence g n a b = SequenceFacts g a b (slice_get g n) (slice_get g a) (slice_get g b)
@@ -146,4 +151,4 @@ pub record IsDeterministic (g : List Entry) : Type 0 where
   pub choice : (n a b : ℕ) → form_at g n ≡ Some (Choice a b) → IsChoice g n a b
   pub «repeat» : (n a : ℕ) → form_at g n ≡ Some (Repeat a) → IsRepeat g n a
   pub clause : (n w a : ℕ) → form_at g n ≡ Some (Clause w a) → IsClause g n w a
-  pub once_more : (n r set : ℕ) → form_at g n ≡ Some (Once r set) → IsOnce g n r
+  pub once_more : (n r : ℕ) (bounds : Bounds) → form_at g n ≡ Some (Once r bounds) → IsOnce g n r bounds.needed

@@ -1,9 +1,10 @@
 -- The test of a grammar and its table, which the checker computes.
-use Rattle.std.specs.Prelude.{ℕ, Bool, true, false, cond, not, ◌&&◌, ltb, eqb, bit_and, List, [], ◌∷◌, slice_get, Option, Some, None}
+use Rattle.std.specs.Prelude.{ℕ, Bool, true, false, cond, not, ◌&&◌, ◌^◌, ltb, eqb, bit_and, List, [], ◌∷◌, slice_get, Option, Some, None}
 use Rattle.std.specs.List.{list_all}
 use Rattle.pe_grammar.specs.declared.form.Entry.{Entry}
 use Rattle.pe_grammar.specs.declared.form.Form.{Form}
 use Rattle.pe_grammar.specs.declared.form.Form.TheVariants.{Terminal, Empty, Sequence, Choice, Repeat, Clause, Once}
+use Rattle.pe_grammar.specs.Certain.{certain}
 use Rattle.pe_grammar.specs.Derivation.{has}
 
 abbrev pub within : ℕ → ℕ → Bool
@@ -87,12 +88,25 @@ repeats Empty = false
 repeats (Sequence a b) = false
 repeats (Choice a b) = false
 repeats (Clause w a) = false
-repeats (Once r set) = false
+repeats (Once r bounds) = false
 
-abbrev pub once_tests : Entry → Entry → List Bool
-once_tests e a =
+abbrev pub repeated_form : Form → ℕ
+repeated_form (Repeat a) = a
+repeated_form (Terminal k) = 0
+repeated_form Empty = 0
+repeated_form (Sequence a b) = 0
+repeated_form (Choice a b) = 0
+repeated_form (Clause w a) = 0
+repeated_form (Once r bounds) = 0
+
+abbrev pub once_tests : List Entry → Entry → ℕ → Entry → List Bool
+once_tests g e needed a =
     repeats a.form
-    ∷ e.nullable
+    ∷ within needed (certain e.rank g e.height (repeated_form a.form))
+    ∷ ltb needed (2 ^ 128)
+    ∷ where_true (eqb needed 0) e.nullable
+    ∷ where_true e.nullable (eqb needed 0)
+    ∷ apart a.opened needed
     ∷ within a.first e.first
     ∷ within a.goes_on e.goes_on
     ∷ within a.opened e.opened
@@ -114,7 +128,7 @@ passes_form g e Empty = e.nullable
 passes_form g e (Sequence a b) = passes_two (sequence_tests e) (slice_get g a) (slice_get g b)
 passes_form g e (Choice a b) = passes_two (choice_tests e) (slice_get g a) (slice_get g b)
 passes_form g e (Repeat a) = passes_one (repeat_tests e) (slice_get g a)
-passes_form g e (Once r set) = passes_one (once_tests e) (slice_get g r)
+passes_form g e (Once r bounds) = passes_one (once_tests g e bounds.needed) (slice_get g r)
 passes_form g e (Clause w a) = passes_one (clause_tests e w) (slice_get g a)
 
 abbrev pub passes_entry : List Entry → Entry → Bool

@@ -17,9 +17,17 @@ pub enum Form {
     /// A terminal of the set and then a text of the form, or nothing where no terminal of the set follows. So an `else`
     /// belongs to the nearest `if`, and a list goes on as long as it can.
     Clause(u128, u16),
-    /// A list of options: the texts of a `Repeat`, named by its place, in which no two parts begin with the same terminal
-    /// of the set.
-    Once(u16, u128),
+    /// A list of options: the texts of a `Repeat`, named by its place, within the bounds.
+    Once(u16, Bounds),
+}
+
+/// Which options a list of them may and must have, by the terminals that begin them.
+#[derive(Clone, Copy)]
+pub struct Bounds {
+    /// No two options begin with the same terminal of this set.
+    pub once: u128,
+    /// An option begins with each terminal of this set.
+    pub needed: u128,
 }
 
 /// A form, and what the test of the grammar goes by.

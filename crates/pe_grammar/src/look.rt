@@ -1,7 +1,7 @@
 //! What a reader asks of the next token.
 
-ghost use Rattle.std.specs.Prelude.{◌≡◌, ◌∷◌, true, false, ◌<◌, ℕ, Some, length, MatchOption};
-ghost use Rattle.pe_grammar.specs.Derivation.{taken, front, has};
+ghost use Rattle.std.specs.Prelude.{◌≡◌, ◌∷◌, true, false, ◌<◌, ℕ, Some, length, MatchOption, IsTrue, ◌↔◌};
+ghost use Rattle.pe_grammar.specs.Derivation.{HasEach, taken, front, has};
 ghost use Rattle.pe_grammar.specs.Grammar.{form_at};
 ghost use Rattle.pe_grammar.specs.Reading.{starts_at, goes_left as is_left};
 
@@ -77,4 +77,18 @@ pub(crate) fn is_taken(set: u128, used: &[u16], kind: u16) -> bool
     ensures { result ≡ taken set used.now kind }
 {
     contains(set, kind) && used.contains(&kind)
+}
+
+/// Whether each terminal of the set was used.
+pub(crate) fn has_each(needed: u128, used: &[u16]) -> bool
+    ensures { IsTrue result ↔ HasEach needed used.now }
+{
+    let mut kind: u16 = 0;
+    while kind < 128 {
+        if contains(needed, kind) && !used.contains(&kind) {
+            return false;
+        }
+        kind += 1;
+    }
+    true
 }

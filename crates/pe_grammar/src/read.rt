@@ -1,18 +1,18 @@
 //! Reads tokens by a grammar.
 
-ghost use Rattle.std.specs.Prelude.{◌≡◌, ◌∷◌, [], ◌<◌, ℕ, Some, Err, length, List, MatchResult, IfOk, IsTrue};
-ghost use Rattle.pe_grammar.specs.Derivation.{Derivation, derivation, leaf, once, front};
+ghost use Rattle.std.specs.Prelude.{◌≡◌, ◌∷◌, [], ◌<◌, ℕ, Some, Err, length, List, MatchResult, IfOk, IsTrue, map};
+ghost use Rattle.pe_grammar.specs.Derivation.{Derivation, derivation, leaf, heads, repeated, done, front};
 ghost use Rattle.pe_grammar.specs.declared.failure.Stop.TheVariants.{Left};
 ghost use Rattle.pe_grammar.specs.declared.failure.Failure.TheVariants.{Syntax};
-ghost use Rattle.pe_grammar.specs.declared.form.Form.TheVariants.{Repeat};
+ghost use Rattle.pe_grammar.specs.declared.form.Form.TheVariants.{Repeat, Once};
 ghost use Rattle.pe_grammar.specs.Grammar.{Spells, form_at, IsRead, IsFault};
 ghost use Rattle.pe_grammar.specs.Table.{IsDeterministic};
 ghost use Rattle.pe_grammar.specs.Test.{passes};
 ghost use Rattle.pe_grammar.specs.Reading.{Reads, IsStop, ReadsOnce, IsStopOnce};
 
 use crate::failure::{Failure, Stop};
-use crate::form::{Entry, Form};
-use crate::look::{form_of, goes_left, is_taken, next_in, next_is, next_start, starts};
+use crate::form::{Bounds, Entry, Form};
+use crate::look::{form_of, goes_left, has_each, is_taken, next_in, next_is, next_start, starts};
 use crate::terminal::Token;
 use crate::tree::{
     Tree, make_absent, make_empty, make_leaf, make_left, make_once, make_pair, make_present,
@@ -65,8 +65,8 @@ fn read<'a>(
             }
         }
         Form::Repeat(each) => repeat(alloc, grammar, form, each, tokens),
-        Form::Once(part, set) => match form_of(grammar, part) {
-            Form::Repeat(each) => read_once(alloc, grammar, part, each, set, tokens),
+        Form::Once(part, bounds) => match form_of(grammar, part) {
+            Form::Repeat(each) => { read_options(alloc, grammar, form, part, each, bounds, tokens) }
             _ => unreachable!(),
         },
         Form::Clause(set, part) => match next_in(set, tokens) {
@@ -103,6 +103,34 @@ fn repeat<'a>(
     Ok((make_repeat(items), left))
 }
 
+/// Reads a list of options: a repetition within the bounds.
+#[cycle(reading)]
+fn read_options<'a>(
+    alloc: Global,
+    grammar: &[Entry],
+    form: u16,
+    part: u16,
+    each: u16,
+    bounds: Bounds,
+    tokens: &'a [Token],
+) -> Result<(Tree, &'a [Token]), Stop>
+    requires grammar { IsDeterministic grammar.now }
+    requires once { form_at grammar.now form ≡ Some (Once part bounds) }
+    requires repeat { form_at grammar.now part ≡ Some (Repeat each) }
+    ensures { MatchResult result
+        (λ r. Reads grammar.now form tokens.now (derivation r.0) r.1.now)
+        (λ e. IsStop grammar.now form tokens.now e) }
+{
+    let (items, used, rest) = read_once(alloc, grammar, part, each, bounds.once, tokens)?;
+    if has_each(bounds.needed, used.as_slice()) {
+        Ok((make_once(items), rest))
+    } else {
+        Err(Stop::Left(rest.len()))
+    }
+}
+
+/// Reads a repetition in which no two parts begin with the same terminal of the set. The parts, the terminals that begin
+/// them, and the rest.
 #[cycle(reading)]
 fn read_once<'a>(
     alloc: Global,
@@ -111,11 +139,11 @@ fn read_once<'a>(
     each: u16,
     set: u128,
     tokens: &'a [Token],
-) -> Result<(Tree, &'a [Token]), Stop>
+) -> Result<(Items<Tree>, Items<u16>, &'a [Token]), Stop>
     requires grammar { IsDeterministic grammar.now }
     requires repeat { form_at grammar.now form ≡ Some (Repeat each) }
     ensures { MatchResult result
-        (λ r. (d : Derivation) × (derivation r.0 ≡ once d) × ReadsOnce grammar.now form set [] tokens.now d r.1.now)
+        (λ r. (heads (repeated (map derivation r.0) done) ≡ r.1) × ReadsOnce grammar.now form set [] tokens.now (repeated (map derivation r.0) done) r.2.now)
         (λ e. IsStopOnce grammar.now form set [] tokens.now e) }
 {
     let mut items = Items::new(alloc);
@@ -130,7 +158,7 @@ fn read_once<'a>(
         used.push(kind)?;
         left = rest;
     }
-    Ok((make_once(items), left))
+    Ok((items, used, left))
 }
 
 /// The tree of the form that the tokens spell, all of them.

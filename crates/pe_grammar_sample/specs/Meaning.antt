@@ -1,5 +1,5 @@
 -- The statement that a derivation is.
-use Rattle.std.specs.Prelude.{◌≡◌, ℕ, List, [], ◌∷◌, map, Option, Some, None, Result, Ok, Err}
+use Rattle.std.specs.Prelude.{◌≡◌, List, [], ◌∷◌, map, Option, Some, None, Result, Ok, Err}
 use Rattle.pe_grammar.specs.declared.failure.Failure.{Failure}
 use Rattle.pe_grammar.specs.declared.failure.Failure.TheVariants as failure
 use Rattle.pe_grammar.specs.declared.terminal.Token.{Token}

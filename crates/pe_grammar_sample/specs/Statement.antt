@@ -1,6 +1,6 @@
 -- The grammar of STATEMENT: written by tools/grammar.py. The first rule is the start.
 use Rattle.std.specs.Prelude.{List, [], ◌∷◌}
-use Rattle.pe_grammar.specs.Written.{Written, rule, each_once, many, nearest, set_of, word, ◌·◌, ◌∣◌}
+use Rattle.pe_grammar.specs.Written.{Written, rule, bounds_of, each_once, many, nearest, set_of, word, ◌·◌, ◌∣◌}
 
 abbrev BEGIN : Written
 BEGIN = word 0
@@ -93,7 +93,7 @@ abbrev declaration-rule : Written
 declaration-rule = DECLARE · NAME · options · SEMI
 
 abbrev options-rule : Written
-options-rule = each_once (set_of (SIZE ∷ SIGNED ∷ [])) option
+options-rule = each_once (bounds_of (SIZE ∷ SIGNED ∷ []) (SIZE ∷ [])) option
 
 abbrev option-rule : Written
 option-rule = SIZE · NAME ∣ SIGNED ∣ NOTE · NAME

@@ -1,6 +1,6 @@
 //! The table of the grammar in `Statement.antt`: written by `tools/grammar.py`.
 
-use pe_grammar::{Entry, Form};
+use pe_grammar::{Bounds, Entry, Form};
 
 // The terminals.
 pub const BEGIN: u16 = 0;
@@ -176,16 +176,22 @@ pub static STATEMENT: [Entry; 41] = [
         goes_on: 0,
         opened: 0,
         rank: 1,
-        height: 3,
+        height: 5,
     },
     Entry {
-        form: Form::Once(34, 6144),
-        nullable: true,
+        form: Form::Once(
+            34,
+            Bounds {
+                once: 6144,
+                needed: 2048,
+            },
+        ),
+        nullable: false,
         first: 14336,
         goes_on: 14336,
         opened: 0,
         rank: 5,
-        height: 0,
+        height: 2,
     },
     Entry {
         form: Form::Choice(35, 37),
@@ -410,16 +416,16 @@ pub static STATEMENT: [Entry; 41] = [
         goes_on: 0,
         opened: 0,
         rank: 1,
-        height: 2,
+        height: 4,
     },
     Entry {
         form: Form::Sequence(7, 12),
         nullable: false,
-        first: 14848,
+        first: 14336,
         goes_on: 0,
         opened: 0,
         rank: 6,
-        height: 1,
+        height: 3,
     },
     Entry {
         form: Form::Repeat(8),

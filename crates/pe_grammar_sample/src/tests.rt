@@ -127,7 +127,7 @@ fn a_declaration(rt: HostRuntime) -> Result<(), Fail> {
 
 #[test]
 fn faults_of_statements(rt: HostRuntime) -> Result<(), Fail> {
-    let cases: [(&[u16], usize); 16] = [
+    let cases: [(&[u16], usize); 20] = [
         (&[], 0),
         (&[END], 0),
         (&[SEMI, SEMI], 1),
@@ -144,6 +144,10 @@ fn faults_of_statements(rt: HostRuntime) -> Result<(), Fail> {
         (&[DECLARE, NAME, SIGNED, NOTE, NAME, SIGNED, SEMI], 5),
         (&[DECLARE, NAME, SIZE], 3),
         (&[DECLARE, NAME, SIZE, SEMI], 3),
+        (&[DECLARE, NAME, SEMI], 2),
+        (&[DECLARE, NAME, SIGNED], 3),
+        (&[DECLARE, NAME, SIGNED, NOTE, NAME, SEMI], 5),
+        (&[DECLARE, NAME, NOTE, NAME, END], 4),
     ];
     for (kinds, at) in cases {
         let text = tokens(rt.alloc(), kinds)?;

@@ -3,10 +3,10 @@ use Rattle.std.specs.Prelude.{map}
 use Rattle.std.proofs.lemmas.Result.{err_from_is_err_and, MatchResult-weaker}
 use Rattle.pe_grammar.specs.declared.failure.Stop.{Stop}
 use Rattle.pe_grammar.specs.declared.failure.Stop.TheVariants.{Memory, Left}
-use Rattle.pe_grammar.specs.Derivation.{derivation, repeated, more, done, text, taken}
+use Rattle.pe_grammar.specs.Derivation.{heads, HasEach, derivation, repeated, more, done, text, taken}
 use Rattle.pe_grammar.specs.Table.{nullable}
 use Rattle.pe_grammar.specs.Reading.{Reads, IsStop, IsRefused, ReadsOnce, RefusesOnce, IsStopOnce, IsRefusedOnce}
-use Rattle.pe_grammar.proofs.Theory.{reads_nothing, reads_pair, reads_left, reads_right, reads_done, reads_more, reads_present, reads_absent, stop_present, reads_once, stop_once, once_done, once_more, once_taken, once_one, once_again, refused_one, refused_again, stop_first, stop_second, stop_left, stop_right, shorter, terminal_reads, terminal_stops}
+use Rattle.pe_grammar.proofs.Theory.{head_is, heads_push, lacking_stops, reads_nothing, reads_pair, reads_left, reads_right, reads_done, reads_more, reads_present, reads_absent, stop_present, reads_once, stop_once, once_done, once_more, once_taken, once_one, once_again, refused_one, refused_again, stop_first, stop_second, stop_left, stop_right, shorter, terminal_reads, terminal_stops}
 use Rattle.pe_grammar.proofs.Trees.{repeated_push}
 use Rattle.pe_grammar.proofs.read.+reading.Goals as goal
 
@@ -170,13 +170,6 @@ read-returns-in-None t c =
 not_taken : (set : ℕ) (xs used : List ℕ) (k : ℕ) → xs ≡ used → false ≡ taken set xs k → taken set used k ≡ true → ⊥
 not_taken set xs used k p q r = let s : taken set xs k ≡ taken set used k = ap (λ v. taken set v k) p in cc
 
-pub read-returns-in-Repeat-form_of : goal.read-returns-in-Repeat-form_of
-read-returns-in-Repeat-form_of t c =
-    let g = c.args.grammar.now in
-    MatchResult-weaker c.read_once.result c.read_once.ensures
-    (λ r h. subst (λ d. Reads g c.args.form c.args.tokens.now d r.1.now) (sym h.1) (reads_once g c.requires.grammar c.args.form c.in-Once.part c.in-Once.set c.args.tokens.now r.1.now h.0 c.in-Once.ensures h.2))
-    (λ e h. stop_once g c.requires.grammar c.args.form c.in-Once.part c.in-Once.set c.args.tokens.now c.in-Once.ensures e h)
-
 pub read_once-next_start-requires : goal.read_once-next_start-requires
 read_once-next_start-requires t c = (c.requires.grammar.«repeat» c.args.form c.args.each c.requires.«repeat»).in_a
 
@@ -228,6 +221,12 @@ read_once-items-preserved t c =
     let marked : c.push-in-Some.new.self ≡ c.items.used ++ kind ∷ [] = c.in_ok-push-2.ensures.ok in
     record {
       fewer = elim r [ inl p ↦ omega arith | inr p ↦ absurd (s.not_null p.1) ];
+      kinds =
+          let head = head_is g c.requires.grammar c.args.form c.args.each d c.items.left.now c.in_ok-tree.rest.now kind c.requires.«repeat» c.in_ok-tree.ensures next.0 in
+          ap (λ ts. heads (repeated (map derivation ts) done)) pushed
+          ∙ heads_push c.items.items c.in_ok-tree.tree kind head
+          ∙ ap (λ ks. ks ++ kind ∷ []) c.items.invariant.kinds
+          ∙ sym marked;
       read = λ e rest x.
           let x' : ReadsOnce g c.args.form c.args.set (c.items.used ++ kind ∷ []) c.in_ok-tree.rest.now e rest = subst (λ v. ReadsOnce g c.args.form c.args.set v c.in_ok-tree.rest.now e rest) marked x in
           let y = c.items.invariant.read (more d e) rest
@@ -245,7 +244,41 @@ read_once-items-preserved t c =
 
 pub read_once-returns : goal.read_once-returns
 read_once-returns t c = (
-  repeated (map derivation c.items.items) done,
-  c.make_once.ensures,
+  c.items.invariant.kinds,
   c.items.invariant.read done c.items.left.now (once_done c.args.grammar.now c.requires.grammar c.args.form c.args.each c.args.set c.items.used c.items.left.now c.requires.«repeat» c.in_default.ensures),
 )
+
+pub read_once-items-init : goal.read_once-items-init
+read_once-items-init t c =
+    let g = c.args.grammar.now in
+    let none = c.new-items.ensures in
+    let unused = c.new-used.ensures in
+    record {
+      fewer = omega arith;
+      kinds = ap (λ ts. heads (repeated (map derivation ts) done)) none ∙ sym unused;
+      read = λ e rest x.
+          subst (λ ts. ReadsOnce g c.args.form c.args.set [] c.args.tokens.now (repeated (map derivation ts) e) rest) (sym none)
+          (subst (λ us. ReadsOnce g c.args.form c.args.set us c.args.tokens.now e rest) unused x);
+      refused = λ k h. subst (λ us. IsRefusedOnce g c.args.form c.args.set us c.args.tokens.now k) unused h;
+    }
+
+pub read_options-returns-in_err-items : goal.read_options-returns-in_err-items
+read_options-returns-in_err-items t c =
+    let p = err_from_is_err_and c.from_residual.result c.from_residual.ensures.1 in
+    rw (p.1, p.2) (stop_once c.args.grammar.now c.requires.grammar c.args.form c.args.part c.args.bounds c.args.tokens.now c.requires.once c.in_err-items.field-0.0 c.in_err-items.ensures)
+
+pub read_options-returns-then-has_each : goal.read_options-returns-then-has_each
+read_options-returns-then-has_each t c =
+    let g = c.args.grammar.now in
+    let d = repeated (map derivation c.in_ok-items.items) done in
+    let rest = c.in_ok-items.rest.now in
+    let has_all : HasEach c.args.bounds.needed c.as_slice.result.now = c.if-has_each.ensures.0 refl in
+    let needs : HasEach c.args.bounds.needed (heads d) = subst (λ ks. HasEach c.args.bounds.needed ks) (c.as_slice.ensures ∙ sym c.in_ok-items.ensures.0) has_all in
+    let x = reads_once g c.requires.grammar c.args.form c.args.part c.args.bounds c.args.tokens.now rest d c.requires.once c.in_ok-items.ensures.1 needs in
+    subst (λ e. Reads g c.args.form c.args.tokens.now e rest) (sym c.make_once.ensures) x
+
+pub read_options-returns : goal.read_options-returns
+read_options-returns t c =
+    let d = repeated (map derivation c.in_ok-items.items) done in
+    lacking_stops c.args.grammar.now c.requires.grammar c.args.form c.args.part c.args.bounds c.args.tokens.now c.in_ok-items.rest.now d c.requires.once c.in_ok-items.ensures.1
+    (λ needs. let z : false ≡ true = c.if-has_each.ensures.1 (subst (λ ks. HasEach c.args.bounds.needed ks) (c.in_ok-items.ensures.0 ∙ sym c.as_slice.ensures) needs) in cc)

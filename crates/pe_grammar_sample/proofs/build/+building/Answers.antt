@@ -1,11 +1,11 @@
-use Rattle.std.proofs.Common.{◌≡◌, List, [], ◌∷◌, refl, ap, sym, ◌∙◌, take}
+use Rattle.std.proofs.Common.{◌≡◌, List, refl, ap, sym, ◌∙◌, take}
 use Rattle.std.specs.Prelude.{map, Option}
 use Rattle.std.proofs.lemmas.List.{take_all}
 use Rattle.pe_grammar.specs.Derivation.{Derivation, derivation, repeated, leaf, pair, done}
 use Rattle.pe_grammar.specs.declared.terminal.Token.{Token}
 use Rattle.pe_grammar.specs.declared.tree.Tree.{Tree}
 use Rattle.pe_grammar.proofs.Lists.{each_value}
-use Rattle.pe_grammar_sample.specs.Meaning.{statement_of, statements_of, block_of, test_of, otherwise_of, name_of}
+use Rattle.pe_grammar_sample.specs.Meaning.{statement_of, statements_of, block_of, test_of, otherwise_of}
 use Rattle.pe_grammar_sample.specs.declared.statement.Statement.{Statement}
 use Rattle.pe_grammar_sample.specs.declared.statement.Statement.TheVariants.{Block, Test}
 use Rattle.pe_grammar_sample.proofs.build.+building.Goals as goal
