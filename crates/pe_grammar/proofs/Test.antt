@@ -1,14 +1,13 @@
 -- A grammar that passes the test is deterministic.
 use Rattle.std.proofs.Common.{◌≡◌, ℕ, zero, suc, ◌<◌, Bool, true, false, cond, not, ltb, List, [], ◌∷◌, length, Some, None, Option, refl, sym, ap, ◌∙◌, subst, inl, inr, ◌⊎◌, arith}
 use Rattle.std.proofs.lemmas.Bool.{ltb-true, eqb-true, and_parts, not-true, eq-eqb}
-use Rattle.std.specs.Prelude.{slice_get, bit_and, min}
+use Rattle.std.specs.Prelude.{slice_get, bit_and, min, ◌^◌, eqb}
 use Rattle.std.specs.List.{list_all}
 use Rattle.std.specs.Int.{bit_at}
 use Rattle.std.proofs.lemmas.Nat.Bits.{bit_at_and, bit_at-lt, bit_at-zero}
 use Rattle.pe_grammar.specs.declared.form.Bounds.{Bounds}
 use Rattle.pe_grammar.specs.declared.form.Entry.{Entry}
 use Rattle.pe_grammar.specs.Certain.{certain}
-use Rattle.std.specs.Prelude.{◌^◌, eqb}
 use Rattle.pe_grammar.specs.declared.form.Form.{Form}
 use Rattle.pe_grammar.specs.declared.form.Form.TheVariants.{Terminal, Empty, Sequence, Choice, Repeat, Clause, Once}
 use Rattle.pe_grammar.specs.Grammar.{form_at, form_in}

@@ -1,5 +1,5 @@
 use Rattle.std.proofs.Common.{◌<◌, arith, refl}
-use Rattle.pe_grammar.proofs.Theory.{below_bound}
+use Rattle.pe_grammar.proofs.Texts.{below_bound}
 use Rattle.pe_grammar.proofs.look.has_each.Goals as goal
 
 pub returns : goal.returns

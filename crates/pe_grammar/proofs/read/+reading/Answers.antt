@@ -6,7 +6,10 @@ use Rattle.pe_grammar.specs.declared.failure.Stop.TheVariants.{Memory, Left}
 use Rattle.pe_grammar.specs.Derivation.{heads, HasEach, derivation, repeated, more, done, text, taken}
 use Rattle.pe_grammar.specs.Table.{nullable}
 use Rattle.pe_grammar.specs.Reading.{Reads, IsStop, IsRefused, ReadsOnce, RefusesOnce, IsStopOnce, IsRefusedOnce}
-use Rattle.pe_grammar.proofs.Theory.{head_is, heads_push, lacking_stops, reads_nothing, reads_pair, reads_left, reads_right, reads_done, reads_more, reads_present, reads_absent, stop_present, reads_once, stop_once, once_done, once_more, once_taken, once_one, once_again, refused_one, refused_again, stop_first, stop_second, stop_left, stop_right, shorter, terminal_reads, terminal_stops}
+use Rattle.pe_grammar.proofs.Theory.{stop_present, refused_one, refused_again, stop_first, stop_second, stop_left, stop_right, shorter, terminal_reads, terminal_stops}
+use Rattle.pe_grammar.proofs.OptionLists.{head_is, lacking_stops, reads_once, stop_once, once_done, once_more, once_taken, once_one, once_again}
+use Rattle.pe_grammar.proofs.Arms.{reads_nothing, reads_pair, reads_left, reads_right, reads_done, reads_more, reads_present, reads_absent}
+use Rattle.pe_grammar.proofs.Texts.{heads_push}
 use Rattle.pe_grammar.proofs.Trees.{repeated_push}
 use Rattle.pe_grammar.proofs.read.+reading.Goals as goal
 
