@@ -8,6 +8,7 @@ ghost use Rattle.pe_grammar.specs.Reading.{starts_at, goes_left as is_left};
 use crate::form::{Entry, Form};
 use crate::terminal::Token;
 
+/// The form at a place.
 pub(crate) fn form_of(grammar: &[Entry], form: u16) -> Form
     requires { form < length grammar.now }
     ensures { form_at grammar.now form ≡ Some result }
@@ -15,6 +16,7 @@ pub(crate) fn form_of(grammar: &[Entry], form: u16) -> Form
     grammar[form as usize].form
 }
 
+/// Whether the terminal is in the set.
 #[tactic(auto, using(std::proofs::lemmas::Nat::Bits::shr_and_one))]
 pub(crate) fn contains(set: u128, kind: u16) -> bool
     ensures { result ≡ has set kind }
@@ -22,6 +24,7 @@ pub(crate) fn contains(set: u128, kind: u16) -> bool
     kind < 128 && (set >> kind) & 1 == 1
 }
 
+/// Whether the tokens begin as the form may.
 pub(crate) fn starts(grammar: &[Entry], form: u16, tokens: &[Token]) -> bool
     requires { form < length grammar.now }
     ensures { result ≡ starts_at grammar.now form tokens.now }
@@ -32,6 +35,8 @@ pub(crate) fn starts(grammar: &[Entry], form: u16, tokens: &[Token]) -> bool
     }
 }
 
+/// Whether a choice takes its first side: where the next token begins it, or where it may be empty and the next token does
+/// not begin the second.
 pub(crate) fn goes_left(grammar: &[Entry], left: u16, right: u16, tokens: &[Token]) -> bool
     requires left { left < length grammar.now }
     requires right { right < length grammar.now }
@@ -73,6 +78,7 @@ pub(crate) fn next_start(grammar: &[Entry], form: u16, tokens: &[Token]) -> Opti
     }
 }
 
+/// Whether the terminal is of the set and was used.
 pub(crate) fn is_taken(set: u128, used: &[u16], kind: u16) -> bool
     ensures { result ≡ taken set used.now kind }
 {

@@ -33,7 +33,8 @@ fn terminal(kind: u16, tokens: &[Token]) -> Result<(Tree, &[Token]), Stop>
     }
 }
 
-/// Reads the form at the front of the tokens, as far as it goes.
+/// Reads the form at the front of the tokens, as far as it goes. It ends since each call has fewer tokens left, or a form of
+/// lower rank.
 #[cycle(reading)]
 fn read<'a>(
     alloc: Global,
@@ -79,6 +80,7 @@ fn read<'a>(
     }
 }
 
+/// Reads a repetition: one part after the other, while the next token begins one.
 #[cycle(reading)]
 fn repeat<'a>(
     alloc: Global,
@@ -161,7 +163,11 @@ fn read_once<'a>(
     Ok((items, used, left))
 }
 
-/// The tree of the form that the tokens spell, all of them.
+/// The tree of the form `start` that the tokens spell, all of them.
+///
+/// The reader goes into itself as deep as the text is nested, and so does the drop of a tree: bound the nesting of the
+/// tokens before the call (a few hundred levels are safe on a stack of 8 MiB). Repetitions and lists of options are loops,
+/// of any length. For one grammar, time is linear in the tokens.
 pub fn parse(
     alloc: Global,
     grammar: &[Entry],
