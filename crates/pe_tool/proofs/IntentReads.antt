@@ -1,8 +1,10 @@
 -- What is found of the commands is their power intent, and their power intent is found.
-use Rattle.std.proofs.Common.{◌≡◌, ℕ, ◌==◌, Bool, true, false, cond, ◌&&◌, List, [], ◌∷◌, map, length, Option, Some, None, Result, Ok, Err, IfOk, refl, sym, ap, subst, ◌∙◌}
+use Rattle.std.proofs.Common.{◌≡◌, ◌≢◌, ◌≤◌, arith, ℕ, ◌==◌, Bool, true, false, cond, ◌&&◌, List, [], ◌∷◌, map, length, Option, Some, None, Result, Ok, Err, IfOk, refl, sym, ap, subst, ◌∙◌}
 use Rattle.std.specs.List.{list_all}
 use Rattle.std.specs.Str.{bytes_eq}
+use Rattle.std.specs.Prelude.{ltb}
 use Rattle.std.proofs.lemmas.Bool.{eqb-true}
+use Rattle.std.proofs.lemmas.Bool.Decides.{nat_tests}
 use Rattle.std.proofs.lemmas.Slice.Eq.{bytes_eq-Decides}
 use Rattle.pe_base.specs.Names.{has_name, are_distinct, place_of}
 use Rattle.pe_tool.specs.declared.upf.Command.{Command}
@@ -11,8 +13,8 @@ use Rattle.pe_tool.specs.declared.intent.Row.{Row}
 use Rattle.pe_tool.specs.declared.intent.PowerIntent.{PowerIntent}
 use Rattle.pe_tool.specs.declared.fault.FormFault.{FormFault}
 use Rattle.pe_tool.specs.declared.fault.FormFault.TheVariants.{Memory, NotBuilt}
-use Rattle.pe_tool.specs.Intent.{tops, domains, supplies, is_sound, primaries, tables, row_words, level_of, AreLevels, IsIntent, IsIntentAnswer}
-use Rattle.pe_tool.specs.IntentReading.{◌>>=◌, Finds, the_one, levels_of, is_primary, places_of, table_of, row_of, roots_of, intent_of}
+use Rattle.pe_tool.specs.Intent.{tops, domains, supplies, is_sound, primaries, tables, row_words, level_of, AreLevels, IsRow, AreRows, IsIntent, IsIntentAnswer}
+use Rattle.pe_tool.specs.IntentReading.{◌>>=◌, Finds, the_one, levels_of, is_primary, places_of, table_of, row_made, rows_made, rows_of, roots_of, intent_of}
 
 abbrev some : {A : Type 0} → A → Option A
 some x = Some x
@@ -133,38 +135,79 @@ table_found : (roots : List (List ℕ)) (cs : List Command) (table : List ℕ ×
 unfolding table_of
 table_found roots cs table t = rw (t.one, t.there, t.apart) refl
 
--- ---- the row
+-- ---- the rows
 
-abbrev IsRow : List Command → List ℕ × List (List ℕ) → Row → Type 0
-IsRow cs table row = (words : List (List ℕ)) × (row_words cs ≡ (row.name, table.0, words) ∷ []) × AreLevels cs table.1 words row.levels
+abbrev row_named : List ℕ × List (List ℕ) → List ℕ × List ℕ × List (List ℕ) → List Level → Option Row
+row_named table words levels = cond (bytes_eq words.1 table.0) (Some (record { name = words.0; levels = levels })) None
 
-abbrev row_made : List ℕ × List (List ℕ) → List ℕ × List ℕ × List (List ℕ) → List Level → Option Row
-row_made table row levels = cond (bytes_eq row.1 table.0) (Some (record { name = row.0; levels = levels })) None
+row_is : (cs : List Command) (table : List ℕ × List (List ℕ)) (words : List ℕ × List ℕ × List (List ℕ)) (row : Row) → row_made cs table words ≡ Some row → IsRow cs table.0 table.1 words row
+unfolding row_made
+row_is cs table words row e =
+    let b = bind_some (levels_of cs table.1 words.2) (row_named table words) row e in
+    let made : Row = record { name = words.0; levels = b.0 } in
+    let g = guard_some (bytes_eq words.1 table.0) made row b.2 in
+    let is : IsRow cs table.0 table.1 words made = (refl, same_bytes words.1 table.0 g.0, levels_are cs table.1 words.2 b.0 b.1) in
+    subst (IsRow cs table.0 table.1 words) g.1 is
 
-row_is : (cs : List Command) (table : List ℕ × List (List ℕ)) (row : Row) → row_of cs table ≡ Some row → IsRow cs table row
-unfolding row_of
-row_is cs table row e =
-    let a = bind_some (the_one (row_words cs)) (λ row. levels_of cs table.1 row.2 >>= row_made table row) row e in
-    let b = bind_some (levels_of cs table.1 a.0.2) (row_made table a.0) row a.2 in
-    let made : Row = record { name = a.0.0; levels = b.0 } in
-    let g = guard_some (bytes_eq a.0.1 table.0) made row b.2 in
-    let one = the_one_is (row_words cs) a.0 a.1 ∙ ap (λ (t : List ℕ). let r : List ℕ × List ℕ × List (List ℕ) = (a.0.0, t, a.0.2) in r ∷ []) (same_bytes a.0.1 table.0 g.0) in
-    subst (IsRow cs table) g.1 (a.0.2, one, levels_are cs table.1 a.0.2 b.0 b.1)
+row_found : (cs : List Command) (table : List ℕ × List (List ℕ)) (words : List ℕ × List ℕ × List (List ℕ)) (row : Row) → IsRow cs table.0 table.1 words row → row_made cs table words ≡ Some row
+unfolding row_made
+row_found cs table words row h = rw (levels_found cs table.1 words.2 row.levels h.2, h.1, bytes_same table.0, h.0) refl
 
-row_found : (cs : List Command) (table : List ℕ × List (List ℕ)) (row : Row) → IsRow cs table row → row_of cs table ≡ Some row
-unfolding row_of
-row_found cs table row h = rw (h.1, levels_found cs table.1 h.0 row.levels h.2, bytes_same table.0) refl
+rows_are : (cs : List Command) (table : List ℕ × List (List ℕ)) (words : List (List ℕ × List ℕ × List (List ℕ))) (rows : List Row) → rows_made cs table words ≡ Some rows → AreRows cs table.0 table.1 words rows
+unfolding rows_made
+rows_are cs table [] [] e = tt
+rows_are cs table [] (r ∷ rs) e = absurd cc
+rows_are cs table (w ∷ ws) rows e =
+    let a = bind_some (row_made cs table w) (λ row. rows_made cs table ws >>= λ rows. Some (row ∷ rows)) rows e in
+    let b = bind_some (rows_made cs table ws) (λ rows. Some (a.0 ∷ rows)) rows a.2 in
+    subst (AreRows cs table.0 table.1 (w ∷ ws)) (some_is (a.0 ∷ b.0) rows b.2) (row_is cs table w a.0 a.1, rows_are cs table ws b.0 b.1)
+
+rows_found : (cs : List Command) (table : List ℕ × List (List ℕ)) (words : List (List ℕ × List ℕ × List (List ℕ))) (rows : List Row) → AreRows cs table.0 table.1 words rows → rows_made cs table words ≡ Some rows
+unfolding rows_made
+rows_found cs table [] [] h = refl
+rows_found cs table [] (r ∷ rs) h = absurd h
+rows_found cs table (w ∷ ws) [] h = absurd h
+rows_found cs table (w ∷ ws) (r ∷ rs) h = rw (row_found cs table w r h.0, rows_found cs table ws rs h.1) refl
+
+record HasRows (cs : List Command) (table : List ℕ × List (List ℕ)) (rows : List Row) : Type 0 where
+  some : length (row_words cs) ≢ 0
+  few : length (row_words cs) ≤ 8
+  are : AreRows cs table.0 table.1 (row_words cs) rows
+
+in_range : (n : ℕ) (o : Option (List Row)) (rows : List Row) → cond (n == 0) None (cond (ltb 8 n) None o) ≡ Some rows → (n ≢ 0) × (n ≤ 8) × (o ≡ Some rows)
+in_range n o rows e = by_tests (n == 0) (ltb 8 n) refl refl e
+  where
+    by_tests : (a b : Bool) → (n == 0) ≡ a → ltb 8 n ≡ b → cond a None (cond b None o) ≡ Some rows → (n ≢ 0) × (n ≤ 8) × (o ≡ Some rows)
+    by_tests true b f g k = absurd (let z : None ≡ Some rows = k in cc)
+    by_tests false true f g k = absurd (let z : None ≡ Some rows = k in cc)
+    by_tests false false f g k = (grind (arith, nat_tests), grind (arith, nat_tests), k)
+
+from_range : (n : ℕ) (o : Option (List Row)) → n ≢ 0 → n ≤ 8 → cond (n == 0) None (cond (ltb 8 n) None o) ≡ o
+from_range n o s f =
+    let a : (n == 0) ≡ false = grind (arith, nat_tests) in
+    let b : ltb 8 n ≡ false = grind (arith, nat_tests) in
+    rw (a, b) refl
+
+all_rows_are : (cs : List Command) (table : List ℕ × List (List ℕ)) (rows : List Row) → rows_of cs table ≡ Some rows → HasRows cs table rows
+unfolding rows_of
+all_rows_are cs table rows e =
+    let r = in_range (length (row_words cs)) (rows_made cs table (row_words cs)) rows e in
+    record { some = r.0; few = r.1; are = rows_are cs table (row_words cs) rows r.2 }
+
+all_rows_found : (cs : List Command) (table : List ℕ × List (List ℕ)) (rows : List Row) → HasRows cs table rows → rows_of cs table ≡ Some rows
+unfolding rows_of
+all_rows_found cs table rows h = from_range (length (row_words cs)) (rows_made cs table (row_words cs)) h.some h.few ∙ rows_found cs table (row_words cs) rows h.are
 
 -- ---- the power intent
 
-abbrev made : List (List ℕ) → List ℕ → ℕ × ℕ → List ℕ × List (List ℕ) → Row → PowerIntent
-made roots top places table row = record { top = top; roots = roots; primary_power = places.0; primary_ground = places.1; table = map (place_of roots) table.1; rows = row ∷ [] }
+abbrev made : List (List ℕ) → List ℕ → ℕ × ℕ → List ℕ × List (List ℕ) → List Row → PowerIntent
+made roots top places table rows = record { top = top; roots = roots; primary_power = places.0; primary_ground = places.1; table = map (place_of roots) table.1; rows = rows }
 
-abbrev of_row : List (List ℕ) → List ℕ → ℕ × ℕ → List ℕ × List (List ℕ) → Row → Option PowerIntent
-of_row roots top places table row = Some (made roots top places table row)
+abbrev of_rows : List (List ℕ) → List ℕ → ℕ × ℕ → List ℕ × List (List ℕ) → List Row → Option PowerIntent
+of_rows roots top places table rows = Some (made roots top places table rows)
 
 abbrev of_table : List Command → List (List ℕ) → List ℕ → ℕ × ℕ → List ℕ × List (List ℕ) → Option PowerIntent
-of_table cs roots top places table = row_of cs table >>= of_row roots top places table
+of_table cs roots top places table = rows_of cs table >>= of_rows roots top places table
 
 abbrev of_places : List Command → List (List ℕ) → List ℕ → ℕ × ℕ → Option PowerIntent
 of_places cs roots top places = table_of roots cs >>= of_table cs roots top places
@@ -185,8 +228,8 @@ roots_found : (cs : List Command) → length (supplies cs) ≡ 2 → roots_of cs
 unfolding roots_of
 roots_found cs e = rw e refl
 
-made_is : (cs : List Command) (top : List ℕ) (places : ℕ × ℕ) (table : List ℕ × List (List ℕ)) (row : Row) → length (supplies cs) ≡ 2 → tops cs ≡ top ∷ [] → IsPlaced (supplies cs) cs places → IsTable (supplies cs) cs table → IsRow cs table row → IsIntent cs (made (supplies cs) top places table row)
-made_is cs top places table row two one p t r = record {
+made_is : (cs : List Command) (top : List ℕ) (places : ℕ × ℕ) (table : List ℕ × List (List ℕ)) (rows : List Row) → length (supplies cs) ≡ 2 → tops cs ≡ top ∷ [] → IsPlaced (supplies cs) cs places → IsTable (supplies cs) cs table → HasRows cs table rows → IsIntent cs (made (supplies cs) top places table rows)
+made_is cs top places table rows two one p t r = record {
   one_top = one;
   domain = p.domain;
   one_domain = p.one_domain;
@@ -206,11 +249,9 @@ made_is cs top places table row two one p t r = record {
   columns_there = t.there;
   columns_apart = t.apart;
   table_places = refl;
-  row = row;
-  words = r.0;
-  one_row = r.1;
-  levels = r.2;
-  rows = refl;
+  some_rows = r.some;
+  few_rows = r.few;
+  rows = r.are;
 }
 
 of_roots_is : (cs : List Command) (i : PowerIntent) → length (supplies cs) ≡ 2 → of_roots cs (supplies cs) ≡ Some i → IsIntent cs i
@@ -218,8 +259,8 @@ of_roots_is cs i two e =
     let a = bind_some (the_one (tops cs)) (of_top cs (supplies cs)) i e in
     let b = bind_some (places_of (supplies cs) cs) (of_places cs (supplies cs) a.0) i a.2 in
     let d = bind_some (table_of (supplies cs) cs) (of_table cs (supplies cs) a.0 b.0) i b.2 in
-    let f = bind_some (row_of cs d.0) (of_row (supplies cs) a.0 b.0 d.0) i d.2 in
-    let is = made_is cs a.0 b.0 d.0 f.0 two (the_one_is (tops cs) a.0 a.1) (places_are (supplies cs) cs b.0 b.1) (table_is (supplies cs) cs d.0 d.1) (row_is cs d.0 f.0 f.1) in
+    let f = bind_some (rows_of cs d.0) (of_rows (supplies cs) a.0 b.0 d.0) i d.2 in
+    let is = made_is cs a.0 b.0 d.0 f.0 two (the_one_is (tops cs) a.0 a.1) (places_are (supplies cs) cs b.0 b.1) (table_is (supplies cs) cs d.0 d.1) (all_rows_are cs d.0 f.0 f.1) in
     subst (IsIntent cs) {x = made (supplies cs) a.0 b.0 d.0 f.0} (some_is _ i f.2) is
 
 intent_is : (cs : List Command) (i : PowerIntent) → intent_of cs ≡ Some i → IsIntent cs i
@@ -232,8 +273,8 @@ intent_is cs i e =
 same_fields : (top : List ℕ) (a b : List (List ℕ)) (p q g h : ℕ) (t u : List ℕ) (v w : List Row) → a ≡ b → p ≡ q → g ≡ h → t ≡ u → v ≡ w → ◌≡◌ {A = PowerIntent} (record { top = top; roots = a; primary_power = p; primary_ground = g; table = t; rows = v }) (record { top = top; roots = b; primary_power = q; primary_ground = h; table = u; rows = w })
 same_fields top a b p q g h t u v w e1 e2 e3 e4 e5 = rw (e1, e2, e3, e4, e5) refl
 
-is_made : (cs : List Command) (i : PowerIntent) (places : ℕ × ℕ) (table : List ℕ × List (List ℕ)) (row : Row) → i.roots ≡ supplies cs → i.primary_power ≡ places.0 → i.primary_ground ≡ places.1 → i.table ≡ map (place_of (supplies cs)) table.1 → i.rows ≡ row ∷ [] → made (supplies cs) i.top places table row ≡ i
-is_made cs i places table row a b d e f = same_fields i.top _ _ _ _ _ _ _ _ _ _ (sym a) (sym b) (sym d) (sym e) (sym f)
+is_made : (cs : List Command) (i : PowerIntent) (places : ℕ × ℕ) (table : List ℕ × List (List ℕ)) → i.roots ≡ supplies cs → i.primary_power ≡ places.0 → i.primary_ground ≡ places.1 → i.table ≡ map (place_of (supplies cs)) table.1 → made (supplies cs) i.top places table i.rows ≡ i
+is_made cs i places table a b d e = same_fields i.top _ _ _ _ _ _ _ _ _ _ (sym a) (sym b) (sym d) (sym e) refl
 
 intent_found : (cs : List Command) (i : PowerIntent) → IsIntent cs i → intent_of cs ≡ Some i
 unfolding intent_of
@@ -253,9 +294,9 @@ intent_found cs i h =
       ground_place = h.ground_place;
     } in
     let t : IsTable (supplies cs) cs table = record { one = h.one_table; there = h.columns_there; apart = h.columns_apart } in
-    let r : IsRow cs table h.row = (h.words, h.one_row, h.levels) in
-    rw (roots_found cs h.two_roots, h.one_top, places_found (supplies cs) cs places p, table_found (supplies cs) cs table t, row_found cs table h.row r)
-    (ap some (is_made cs i places table h.row h.roots refl refl h.table_places h.rows))
+    let r : HasRows cs table i.rows = record { some = h.some_rows; few = h.few_rows; are = h.rows } in
+    rw (roots_found cs h.two_roots, h.one_top, places_found (supplies cs) cs places p, table_found (supplies cs) cs table t, all_rows_found cs table i.rows r)
+    (ap some (is_made cs i places table h.roots refl refl h.table_places))
 
 -- ---- the answer
 

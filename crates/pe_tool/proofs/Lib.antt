@@ -17,6 +17,7 @@ pub mod UpfLaws
 mod MapWalks
 mod IntentLevels
 mod IntentReads
+mod IntentRows
 mod IntentRoots
 pub mod Stages
 pub mod Exact

@@ -1,7 +1,7 @@
 -- What the commands of a UPF text mean. A net and a port of one name are one supply, and no switch drives any: each
 -- supply is a root. The form that is built has one domain, which holds the top, two supplies, one table, which names
--- each supply once at most, and one row.
-use Rattle.std.specs.Prelude.{◌≡◌, ℕ, Bool, true, false, cond, ◌&&◌, List, [], ◌∷◌, ◌++◌, map, length, codes, Option, Some, None, Result, Ok, Err}
+-- each supply once at most, and one to eight rows.
+use Rattle.std.specs.Prelude.{◌≡◌, ◌≢◌, ◌≤◌, ℕ, Bool, true, false, cond, ◌&&◌, List, [], ◌∷◌, ◌++◌, map, length, codes, Option, Some, None, Result, Ok, Err}
 use Rattle.std.specs.List.{list_all}
 use Rattle.std.specs.Str.{bytes_eq}
 use Rattle.pe_base.specs.Names.{has_name, are_distinct, place_of}
@@ -100,6 +100,16 @@ AreLevels cs [] [] [] = Unit {0}
 AreLevels cs (supply ∷ supplies) (word ∷ words) (level ∷ levels) = IsLevel cs supply word level × AreLevels cs supplies words levels
 AreLevels cs _ _ _ = ⊥
 
+-- The words of a row demand this: they name the table, and have a level for each of its supplies.
+abbrev pub IsRow : List Command → List ℕ → List (List ℕ) → List ℕ × List ℕ × List (List ℕ) → Row → Type 0
+IsRow cs table columns words row = (words.0 ≡ row.name) × (words.1 ≡ table) × AreLevels cs columns words.2 row.levels
+
+-- likewise the words of each row, in text order
+abbrev pub AreRows : List Command → List ℕ → List (List ℕ) → List (List ℕ × List ℕ × List (List ℕ)) → List Row → Type 0
+AreRows cs table columns [] [] = Unit {0}
+AreRows cs table columns (words ∷ more) (row ∷ rows) = IsRow cs table columns words row × AreRows cs table columns more rows
+AreRows cs table columns _ _ = ⊥
+
 -- The commands have this power intent.
 pub record IsIntent (cs : List Command) (i : PowerIntent) : Type 0 where
   pub one_top : tops cs ≡ i.top ∷ []
@@ -121,11 +131,9 @@ pub record IsIntent (cs : List Command) (i : PowerIntent) : Type 0 where
   pub columns_there : list_all (has_name (supplies cs)) columns ≡ true
   pub columns_apart : are_distinct columns ≡ true
   pub table_places : i.table ≡ map (place_of (supplies cs)) columns
-  pub row : Row
-  pub words : List (List ℕ)
-  pub one_row : row_words cs ≡ (row.name, table, words) ∷ []
-  pub levels : AreLevels cs columns words row.levels
-  pub rows : i.rows ≡ row ∷ []
+  pub some_rows : length (row_words cs) ≢ 0
+  pub few_rows : length (row_words cs) ≤ 8
+  pub rows : AreRows cs table columns (row_words cs) i.rows
 
 -- the answer is i, unless memory ran out
 abbrev pub IsIntentAnswer : PowerIntent → Result PowerIntent FormFault → Type 0

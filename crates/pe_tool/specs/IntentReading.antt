@@ -1,12 +1,13 @@
 -- How the power intent of commands is found. Each function gives what it finds, or nothing where the commands have no such
 -- thing of the form that is built.
-use Rattle.std.specs.Prelude.{◌≡◌, ◌==◌, ◌&&◌, ℕ, Bool, List, [], ◌∷◌, map, length, Option, Some, None, Result, Ok, Err, if◌then◌else◌}
+use Rattle.std.specs.Prelude.{◌≡◌, ◌==◌, ◌&&◌, ltb, ℕ, Bool, true, false, List, [], ◌∷◌, map, length, Option, Some, None, Result, Ok, Err, if◌then◌else◌}
 use Rattle.std.specs.List.{list_all}
 use Rattle.std.specs.Str.{bytes_eq}
 use Rattle.pe_base.specs.Names.{has_name, are_distinct, place_of}
 use Rattle.pe_tool.specs.declared.fault.FormFault.{FormFault}
 use Rattle.pe_tool.specs.declared.fault.FormFault.TheVariants.{Memory, NotBuilt}
 use Rattle.pe_tool.specs.declared.upf.Command.{Command}
+use Rattle.pe_tool.specs.declared.upf.Command.TheVariants.{AddPstState}
 use Rattle.pe_tool.specs.declared.intent.Level.{Level}
 use Rattle.pe_tool.specs.declared.intent.Row.{Row}
 use Rattle.pe_tool.specs.declared.intent.PowerIntent.{PowerIntent}
@@ -68,12 +69,34 @@ table_of roots cs = do
   table ← the_one (tables cs)
   if list_all (has_name roots) table.1 && are_distinct table.1 then Some table else None
 
--- the row of the table
-unfoldable pub row_of : List Command → List ℕ × List (List ℕ) → Option Row
-row_of cs table = do
-  row ← the_one (row_words cs)
-  levels ← levels_of cs table.1 row.2
-  if bytes_eq row.1 table.0 then Some (record { name = row.0; levels = levels }) else None
+-- the words of a row, if the command is one
+abbrev pub row_at : Command → Option (List ℕ × List ℕ × List (List ℕ))
+row_at (AddPstState name table states) = Some (name, table, states)
+row_at _ = None
+
+-- whether the command is a row
+abbrev pub is_row : Command → Bool
+is_row (AddPstState name table states) = true
+is_row _ = false
+
+-- the row of the table that has these words
+unfoldable pub row_made : List Command → List ℕ × List (List ℕ) → List ℕ × List ℕ × List (List ℕ) → Option Row
+row_made cs table words = do
+  levels ← levels_of cs table.1 words.2
+  if bytes_eq words.1 table.0 then Some (record { name = words.0; levels = levels }) else None
+
+-- likewise all rows
+unfoldable pub rows_made : List Command → List ℕ × List (List ℕ) → List (List ℕ × List ℕ × List (List ℕ)) → Option (List Row)
+rows_made cs table [] = Some []
+rows_made cs table (words ∷ more) = do
+  row ← row_made cs table words
+  rows ← rows_made cs table more
+  Some (row ∷ rows)
+
+-- the rows of the table, of which there are one to eight
+unfoldable pub rows_of : List Command → List ℕ × List (List ℕ) → Option (List Row)
+rows_of cs table =
+    if length (row_words cs) == 0 then None else if ltb 8 (length (row_words cs)) then None else rows_made cs table (row_words cs)
 
 -- the supplies, of which there are two
 unfoldable pub roots_of : List Command → Option (List (List ℕ))
@@ -86,5 +109,5 @@ intent_of cs = do
   top ← the_one (tops cs)
   places ← places_of roots cs
   table ← table_of roots cs
-  row ← row_of cs table
-  Some (record { top = top; roots = roots; primary_power = places.0; primary_ground = places.1; table = map (place_of roots) table.1; rows = row ∷ [] })
+  rows ← rows_of cs table
+  Some (record { top = top; roots = roots; primary_power = places.0; primary_ground = places.1; table = map (place_of roots) table.1; rows = rows })

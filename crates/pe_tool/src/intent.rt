@@ -5,8 +5,8 @@ ghost use Rattle.std.specs.List.{list_all};
 ghost use Rattle.pe_base.specs.Names.{has_name, place_of};
 ghost use Rattle.pe_tool.specs.declared.upf.Command.{Command};
 ghost use Rattle.pe_tool.specs.declared.intent.PowerIntent.{PowerIntent};
-ghost use Rattle.pe_tool.specs.Intent.{IsIntent, IsIntentAnswer};
-ghost use Rattle.pe_tool.specs.IntentReading.{Finds, primary_seen, table_seen, is_primary, places_of, table_of, row_of, intent_of};
+ghost use Rattle.pe_tool.specs.Intent.{row_words, IsIntent, IsIntentAnswer};
+ghost use Rattle.pe_tool.specs.IntentReading.{Finds, primary_seen, table_seen, is_primary, places_of, table_of, words_seen, row_made, rows_made, rows_of, intent_of};
 
 mod levels;
 mod parts;
@@ -15,7 +15,8 @@ use crate::fault::FormFault;
 use crate::upf::Command;
 use levels::levels;
 use parts::{
-    Primary, Table, are_sound, one_domain, one_primary, one_row, one_table, one_top, two_roots,
+    Primary, Table, Words, are_sound, one_domain, one_primary, one_table, one_top, row_at,
+    row_count, two_roots,
 };
 use pe_base::{Name, are_distinct, has_name, place_of};
 use sqlite_items::Items;
@@ -117,20 +118,65 @@ fn only_table<'a>(
     Ok(table)
 }
 
-/// The row of the table.
-#[tactic(auto, unfolding(crate::specs::IntentReading::row_of))]
-fn only_row(alloc: Global, commands: &[Command], table: &Table<'_>) -> Result<Row, FormFault>
-    ensures { Finds (λ row. row) result (row_of commands.now (table_seen table.now)) }
+/// The row of the table that has these words.
+#[tactic(auto, unfolding(crate::specs::IntentReading::row_made))]
+fn row_made(
+    alloc: Global,
+    commands: &[Command],
+    table: &Table<'_>,
+    words: &Words<'_>,
+) -> Result<Row, FormFault>
+    ensures { Finds (λ row. row) result (row_made commands.now (table_seen table.now) (words_seen words.now)) }
 {
-    let row = one_row(commands)?;
-    let levels = levels(alloc, commands, table.columns, row.words)?;
-    if !row.table.is(table.name.bytes()) {
+    let levels = levels(alloc, commands, table.columns, words.words)?;
+    if !words.table.is(table.name.bytes()) {
         return Err(FormFault::NotBuilt);
     }
     Ok(Row {
-        name: row.name.copy(alloc)?,
+        name: words.name.copy(alloc)?,
         levels,
     })
+}
+
+/// The rows of the table.
+fn rows_made(
+    alloc: Global,
+    commands: &[Command],
+    table: &Table<'_>,
+) -> Result<Items<Row>, FormFault>
+    ensures { Finds (λ rows. rows) result (rows_made commands.now (table_seen table.now) (row_words commands.now)) }
+{
+    let mut rows = Items::new(alloc);
+    for command in commands {
+        let Some(words) = row_at(command) else {
+            continue;
+        };
+        let row = match row_made(alloc, commands, table, &words) {
+            Ok(row) => row,
+            Err(fault) => return Err(fault),
+        };
+        rows.push(row)?;
+    }
+    Ok(rows)
+}
+
+/// The rows of the table, of which there are one to eight.
+#[tactic(auto, unfolding(crate::specs::IntentReading::rows_of))]
+fn some_rows(
+    alloc: Global,
+    commands: &[Command],
+    table: &Table<'_>,
+) -> Result<Items<Row>, FormFault>
+    ensures { Finds (λ rows. rows) result (rows_of commands.now (table_seen table.now)) }
+{
+    let count = row_count(commands);
+    if count == 0 {
+        return Err(FormFault::NotBuilt);
+    }
+    if 8 < count {
+        return Err(FormFault::NotBuilt);
+    }
+    rows_made(alloc, commands, table)
 }
 
 /// The power intent of the commands, by what each part of them gives.
@@ -142,10 +188,8 @@ fn found_intent(alloc: Global, commands: &[Command]) -> Result<PowerIntent, Form
     let top = one_top(commands)?;
     let (primary_power, primary_ground) = primary_places(roots.as_slice(), commands)?;
     let table = only_table(alloc, roots.as_slice(), commands)?;
-    let row = only_row(alloc, commands, &table)?;
+    let rows = some_rows(alloc, commands, &table)?;
     let places = all_places(alloc, roots.as_slice(), table.columns)?;
-    let mut rows = Items::new(alloc);
-    rows.push(row)?;
     Ok(PowerIntent {
         top: top.copy(alloc)?,
         roots,

@@ -20,9 +20,9 @@ const WORDS: [&str; 6] = [
     "pairs.map",
 ];
 
-// The domain's primary power, and the row with its columns VDD and VSS.
+// The domain's primary power, and the rows with their columns VDD and VSS.
 macro_rules! upf {
-    ($power:literal, $row:literal) => {
+    ($power:literal, $($row:literal),+) => {
         concat!(
             "set_design_top top\n",
             "create_power_domain PD -include_scope\n",
@@ -38,9 +38,7 @@ macro_rules! upf {
             "add_port_state VDD -state {HV 1.0} -state {OFF off}\n",
             "add_port_state VSS -state {GND 0.0}\n",
             "create_pst T -supplies {VDD VSS}\n",
-            "add_pst_state ",
-            $row,
-            "\n"
+            $("add_pst_state ", $row, "\n"),+
         )
     };
 }
@@ -65,6 +63,32 @@ const UPF: &str = upf!("VDD", "ON -pst T -state {HV GND}");
 const DARK: &str = upf!("VDD", "DARK -pst T -state {OFF GND}");
 
 const DARK_BUT_ON: &str = upf!("VSS", "DARK -pst T -state {OFF GND}");
+
+// Two of them are dark, and one has a `*`.
+const EIGHT_ROWS: &str = upf!(
+    "VDD",
+    "ON1 -pst T -state {HV GND}",
+    "DARK1 -pst T -state {OFF GND}",
+    "ANY -pst T -state {* GND}",
+    "ON2 -pst T -state {HV GND}",
+    "ON3 -pst T -state {HV GND}",
+    "DARK2 -pst T -state {OFF GND}",
+    "ON4 -pst T -state {HV GND}",
+    "ON5 -pst T -state {HV GND}"
+);
+
+const NINE_ROWS: &str = upf!(
+    "VDD",
+    "ON1 -pst T -state {HV GND}",
+    "ON2 -pst T -state {HV GND}",
+    "ON3 -pst T -state {HV GND}",
+    "ON4 -pst T -state {HV GND}",
+    "ON5 -pst T -state {HV GND}",
+    "ON6 -pst T -state {HV GND}",
+    "ON7 -pst T -state {HV GND}",
+    "ON8 -pst T -state {HV GND}",
+    "ON9 -pst T -state {HV GND}"
+);
 
 const LIB: &str = "library (pe) {
   cell (BUF) { pg_pin (VDD) { pg_type : primary_power; } pg_pin (VSS) { pg_type : primary_ground; } pin (A) { direction : input; } pin (Y) { direction : output; function : \"A\"; power_down_function : \"!VDD + VSS\"; } }
@@ -117,6 +141,35 @@ mismatch start DARK output y
   rtl 0 net x
 ";
 
+// The report with a block of OR2 in each of these rows.
+macro_rules! or_report {
+    ($counts:literal, $($row:literal),+) => {
+        concat!(
+            "powereq: mismatch\n",
+            $counts,
+            $(
+                "mismatch start ",
+                $row,
+                " output y\n  cycle 1\n    supply VDD on\n    supply VSS on\n    in a 0\n    in b 1\n  rtl 0 net 1\n"
+            ),+
+        )
+    };
+}
+
+// In a dark row the RTL's y is corrupt, so that each value refines it. In the row with the `*` so it is while VDD is off,
+// and these assignments come first; with VDD on the row is as the others.
+const EIGHT_ROWS_OF_OR: &str = or_report!(
+    "obligations 8 refuted 2 mismatched 6 spent 0\n",
+    "ON1",
+    "ANY",
+    "ON2",
+    "ON3",
+    "ON4",
+    "ON5"
+);
+
+const EIGHT_ACCEPTED: &str = "powereq: accepted\nobligations 8 refuted 8 mismatched 0 spent 0\n";
+
 const USAGE: &str = "usage: powereq check RTL UPF LIB NET MAP\n";
 
 fn strings(alloc: Global, words: &[&str]) -> Result<Vec<String>, Fail> {
@@ -149,7 +202,7 @@ fn run_on(
 ) -> Result<(u8, MemSink), Fail> {
     let words = strings(alloc, words)?;
     let mut files = files_of(alloc, texts, 65_536, fails)?;
-    let mut out = MemSink::new(alloc, 256, 256, Items::new(alloc))?;
+    let mut out = MemSink::new(alloc, 2_048, 2_048, Items::new(alloc))?;
     let status = run_alone(alloc, words.as_slice(), &mut files, &mut out);
     Ok((status, out))
 }
@@ -168,6 +221,13 @@ fn judges(rt: HostRuntime) -> Result<(), Fail> {
         // its power pin on VDD: the cell is down, its y is corrupt, and the RTL's is not. On VSS it is not down.
         ([RTL, DARK_BUT_ON, LIB, AND, ""], 1, MISMATCH_IN_THE_DARK),
         ([RTL, DARK_BUT_ON, LIB, AND_ON_VSS, ""], 0, ACCEPTED),
+        ([RTL, EIGHT_ROWS, LIB, OR, ""], 1, EIGHT_ROWS_OF_OR),
+        ([RTL, EIGHT_ROWS, LIB, AND, ""], 0, EIGHT_ACCEPTED),
+        (
+            [RTL, NINE_ROWS, LIB, AND, ""],
+            3,
+            "refused: upf not built\n",
+        ),
         (
             [WIDE_RTL, UPF, LIB, WIDE_NET, ""],
             3,

@@ -1,9 +1,10 @@
 //! The parts of a power intent of which the commands have one each.
 
-ghost use Rattle.std.specs.Prelude.{◌≡◌};
+ghost use Rattle.std.specs.Prelude.{◌≡◌, length};
+ghost use Rattle.std.specs.Option.{option_map};
 ghost use Rattle.std.specs.List.{list_all};
 ghost use Rattle.pe_tool.specs.Intent.{tops, domains, is_sound, primaries, tables, row_words};
-ghost use Rattle.pe_tool.specs.IntentReading.{Finds, the_one, roots_of, primary_seen, table_seen, words_seen};
+ghost use Rattle.pe_tool.specs.IntentReading.{Finds, the_one, roots_of, primary_seen, table_seen, words_seen, row_at, is_row};
 
 use crate::fault::FormFault;
 use crate::upf::Command;
@@ -110,29 +111,43 @@ pub fn one_table(commands: &[Command]) -> Result<Table<'_>, FormFault>
     found.ok_or(FormFault::NotBuilt)
 }
 
-/// The row.
-pub fn one_row(commands: &[Command]) -> Result<Words<'_>, FormFault>
-    ensures { Finds words_seen result (the_one (row_words commands.now)) }
+/// The words of a row, if the command is one.
+pub fn row_at(command: &Command) -> Option<Words<'_>>
+    ensures { option_map words_seen result ≡ row_at command.now }
 {
-    let mut found = None;
-    for command in commands {
-        if let Command::AddPstState {
+    match command {
+        Command::AddPstState {
             name,
             table,
             states,
-        } = command
-        {
-            if found.is_some() {
-                return Err(FormFault::NotBuilt);
-            }
-            found = Some(Words {
-                name,
-                table,
-                words: states.as_slice(),
-            });
-        }
+        } => Some(Words {
+            name,
+            table,
+            words: states.as_slice(),
+        }),
+        _ => None,
     }
-    found.ok_or(FormFault::NotBuilt)
+}
+
+/// Whether the command is a row.
+fn is_row(command: &Command) -> bool
+    ensures { result ≡ is_row command.now }
+{
+    matches!(command, Command::AddPstState { .. })
+}
+
+/// How many rows there are.
+pub fn row_count(commands: &[Command]) -> usize
+    ensures { result ≡ length (row_words commands.now) }
+{
+    let mut count = 0;
+    for command in commands {
+        if !is_row(command) {
+            continue;
+        }
+        count += 1;
+    }
+    count
 }
 
 /// The two supplies, in the order in which the commands first name them. A third ends the search, which would else take
