@@ -1,0 +1,3 @@
+pub mod Boolean
+pub mod Statement
+pub mod Meaning
