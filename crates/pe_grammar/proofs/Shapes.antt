@@ -20,22 +20,22 @@ abbrev Cases : Tree → Type 0
 Cases t =
     ((k : Token) × (t ≡ Leaf k))
     ⊎ ((t ≡ Empty)
-    ⊎ (((x : Tree) × (y : Tree) × (t ≡ Pair x y))
+    ⊎ (((x : Tree) × (y : Tree) × (t ≡ Pair (x, y)))
     ⊎ (((x : Tree) × (t ≡ Left x))
     ⊎ (((x : Tree) × (t ≡ Right x))
     ⊎ (((xs : List Tree) × (t ≡ Repeat xs))
-    ⊎ (((k : Token) × (x : Tree) × (t ≡ Present k x))
+    ⊎ (((k : Token) × (x : Tree) × (t ≡ Present (k, x)))
     ⊎ (((w : ℕ) × (t ≡ Absent w))
     ⊎ ((xs : List Tree) × (t ≡ Once xs)))))))))
 
 cases_layer : (l : Tree-F Tree) → Cases (roll-Tree l)
 cases_layer (layer.Leaf t) = inl (t, rolls-Leaf t)
 cases_layer layer.Empty = inr (inl rolls-Empty)
-cases_layer (layer.Pair x y) = inr (inr (inl (x, y, rolls-Pair x y)))
+cases_layer (layer.Pair p) = inr (inr (inl (p.0, p.1, rolls-Pair p)))
 cases_layer (layer.Left x) = inr (inr (inr (inl (x, rolls-Left x))))
 cases_layer (layer.Right x) = inr (inr (inr (inr (inl (x, rolls-Right x)))))
 cases_layer (layer.Repeat xs) = inr (inr (inr (inr (inr (inl (xs, rolls-Repeat xs))))))
-cases_layer (layer.Present t x) = inr (inr (inr (inr (inr (inr (inl (t, x, rolls-Present t x)))))))
+cases_layer (layer.Present p) = inr (inr (inr (inr (inr (inr (inl (p.0, p.1, rolls-Present p)))))))
 cases_layer (layer.Absent w) = inr (inr (inr (inr (inr (inr (inr (inl (w, rolls-Absent w))))))))
 cases_layer (layer.Once xs) = inr (inr (inr (inr (inr (inr (inr (inr (xs, rolls-Once xs))))))))
 
@@ -49,10 +49,10 @@ along g n t u d p q h = subst (λ v. Derives g n v) (ap derivation p ∙ q) h
 abbrev FormOf : List Entry → ℕ → Tree → Type 0
 FormOf g n t =
     ((k : Token) × (t ≡ Leaf k) × (form_at g n ≡ Some (Terminal k.kind)))
-    ⊎ (((x : Tree) × (y : Tree) × (a : ℕ) × (b : ℕ) × (t ≡ Pair x y) × (form_at g n ≡ Some (Sequence a b)))
+    ⊎ (((x : Tree) × (y : Tree) × (a : ℕ) × (b : ℕ) × (t ≡ Pair (x, y)) × (form_at g n ≡ Some (Sequence a b)))
     ⊎ (((x : Tree) × (a : ℕ) × (b : ℕ) × (t ≡ Left x) × (form_at g n ≡ Some (Choice a b)))
     ⊎ (((x : Tree) × (a : ℕ) × (b : ℕ) × (t ≡ Right x) × (form_at g n ≡ Some (Choice a b)))
-    ⊎ (((k : Token) × (x : Tree) × (set : ℕ) × (a : ℕ) × (t ≡ Present k x) × (form_at g n ≡ Some (Clause set a)))
+    ⊎ (((k : Token) × (x : Tree) × (set : ℕ) × (a : ℕ) × (t ≡ Present (k, x)) × (form_at g n ≡ Some (Clause set a)))
     ⊎ (((w : ℕ) × (a : ℕ) × (t ≡ Absent w) × (form_at g n ≡ Some (Clause w a)))
     ⊎ (((form_at g n ≡ Some form.Empty) ⊎ ((r : ℕ) × (bounds : Bounds) × (xs : List Tree) × (t ≡ Once xs) × (form_at g n ≡ Some (form.Once r bounds)))) ⊎ ((a : ℕ) × (xs : List Tree) × (t ≡ Repeat xs) × (form_at g n ≡ Some (form.Repeat a)))))))))
 
@@ -66,7 +66,7 @@ form_of_tree g n t h = elim (cases t) [
   | inr w ↦ elim w [
     | inl v ↦ inr (inr (inr (inr (inr (inr (inl (inl (along g n t Empty nothing v derivation-Empty h))))))))
     | inr w ↦ elim w [
-      | inl v ↦ let d = along g n t (Pair v.0 v.1) (pair (derivation v.0) (derivation v.1)) v.2 (derivation-Pair v.0 v.1) h in inr (inl (v.0, v.1, d.0, d.1, v.2, d.2))
+      | inl v ↦ let d = along g n t (Pair (v.0, v.1)) (pair (derivation v.0) (derivation v.1)) v.2 (derivation-Pair v.0 v.1) h in inr (inl (v.0, v.1, d.0, d.1, v.2, d.2))
       | inr w ↦ elim w [
         | inl v ↦ let d = along g n t (Left v.0) (left (derivation v.0)) v.1 (derivation-Left v.0) h in inr (inr (inl (v.0, d.0, d.1, v.1, d.2)))
         | inr w ↦ elim w [
@@ -74,7 +74,7 @@ form_of_tree g n t h = elim (cases t) [
           | inr w ↦ elim w [
             | inl v ↦ let d = repeat_form g n (map derivation v.0) (along g n t (Repeat v.0) (repeated (map derivation v.0) done) v.1 (derivation-Repeat v.0) h) in inr (inr (inr (inr (inr (inr (inr (d.0, v.0, v.1, d.1)))))))
             | inr w ↦ elim w [
-              | inl v ↦ let d = along g n t (Present v.0 v.1) (present v.0 (derivation v.1)) v.2 (derivation-Present v.0 v.1) h in inr (inr (inr (inr (inl (v.0, v.1, d.0, d.1, v.2, d.2)))))
+              | inl v ↦ let d = along g n t (Present (v.0, v.1)) (present v.0 (derivation v.1)) v.2 (derivation-Present v.0 v.1) h in inr (inr (inr (inr (inl (v.0, v.1, d.0, d.1, v.2, d.2)))))
               | inr w ↦ elim w [
                 | inl v ↦ let d = along g n t (Absent v.0) (absent v.0) v.1 (derivation-Absent v.0) h in inr (inr (inr (inr (inr (inl (v.0, d.0, v.1, d.1))))))
                 | inr v ↦ let d = along g n t (Once v.0) (once (repeated (map derivation v.0) done)) v.1 (derivation-Once v.0) h in inr (inr (inr (inr (inr (inr (inl (inr (d.0, d.1, v.0, v.1, d.2))))))))
@@ -87,7 +87,7 @@ form_of_tree g n t h = elim (cases t) [
   ]
 ]
 
-pub sequence_tree : (g : List Entry) (n a b : ℕ) (t : Tree) → form_at g n ≡ Some (Sequence a b) → Derives g n (derivation t) → (x : Tree) × (y : Tree) × (t ≡ Pair x y)
+pub sequence_tree : (g : List Entry) (n a b : ℕ) (t : Tree) → form_at g n ≡ Some (Sequence a b) → Derives g n (derivation t) → (x : Tree) × (y : Tree) × (t ≡ Pair (x, y))
 sequence_tree g n a b t f h = elim (form_of_tree g n t h) [
   | inl v ↦ let p = v.2 in cc
   | inr w ↦ elim w [
@@ -129,7 +129,7 @@ choice_tree g n a b t f h = elim (form_of_tree g n t h) [
   ]
 ]
 
-pub clause_tree : (g : List Entry) (n u a : ℕ) (t : Tree) → form_at g n ≡ Some (Clause u a) → Derives g n (derivation t) → ((k : Token) × (x : Tree) × (t ≡ Present k x)) ⊎ (t ≡ Absent u)
+pub clause_tree : (g : List Entry) (n u a : ℕ) (t : Tree) → form_at g n ≡ Some (Clause u a) → Derives g n (derivation t) → ((k : Token) × (x : Tree) × (t ≡ Present (k, x))) ⊎ (t ≡ Absent u)
 clause_tree g n u a t f h = elim (form_of_tree g n t h) [
   | inl v ↦ let p = v.2 in cc
   | inr w ↦ elim w [
@@ -171,8 +171,8 @@ terminal_tree g n k t f h = elim (form_of_tree g n t h) [
   ]
 ]
 
-pub pair_is : (t x y u v : Tree) → t ≡ Pair x y → u ≡ x → v ≡ y → derivation t ≡ pair (derivation u) (derivation v)
-pair_is t x y u v p q r = ap derivation p ∙ derivation-Pair x y ∙ ap (λ w. pair (derivation w) (derivation y)) (sym q) ∙ ap (λ w. pair (derivation u) (derivation w)) (sym r)
+pub pair_is : (t : Tree) (p q : Tree × Tree) → t ≡ Pair p → q ≡ p → derivation t ≡ pair (derivation q.0) (derivation q.1)
+pair_is t p q e r = ap derivation e ∙ derivation-Pair p.0 p.1 ∙ ap (λ w. pair (derivation w.0) (derivation w.1)) (sym r)
 
 pub left_is : (t x u : Tree) → t ≡ Left x → u ≡ x → derivation t ≡ left (derivation u)
 left_is t x u p q = ap derivation p ∙ derivation-Left x ∙ ap (λ w. left (derivation w)) (sym q)
@@ -180,8 +180,8 @@ left_is t x u p q = ap derivation p ∙ derivation-Left x ∙ ap (λ w. left (de
 pub right_is : (t x u : Tree) → t ≡ Right x → u ≡ x → derivation t ≡ right (derivation u)
 right_is t x u p q = ap derivation p ∙ derivation-Right x ∙ ap (λ w. right (derivation w)) (sym q)
 
-pub present_is : (t x u : Tree) (k : Token) → t ≡ Present k x → u ≡ x → derivation t ≡ present k (derivation u)
-present_is t x u k p q = ap derivation p ∙ derivation-Present k x ∙ ap (λ w. present k (derivation w)) (sym q)
+pub present_is : (t : Tree) (p q : Token × Tree) → t ≡ Present p → q ≡ p → derivation t ≡ present q.0 (derivation q.1)
+present_is t p q e r = ap derivation e ∙ derivation-Present p.0 p.1 ∙ ap (λ w. present w.0 (derivation w.1)) (sym r)
 
 pub leaf_is : (t : Tree) (k : Token) → t ≡ Leaf k → derivation t ≡ leaf k
 leaf_is t k p = ap derivation p ∙ derivation-Leaf k

@@ -15,9 +15,9 @@ pub derivation-Empty : derivation Empty ≡ nothing
 unfolding derivation
 derivation-Empty = ap (fold-Tree Derivation layer_of) (sym rolls-Empty) ∙ fold-roll-Tree Derivation layer_of layer.Empty
 
-pub derivation-Pair : (l r : Tree) → derivation (Pair l r) ≡ pair (derivation l) (derivation r)
+pub derivation-Pair : (l r : Tree) → derivation (Pair (l, r)) ≡ pair (derivation l) (derivation r)
 unfolding derivation
-derivation-Pair l r = ap (fold-Tree Derivation layer_of) (sym (rolls-Pair l r)) ∙ fold-roll-Tree Derivation layer_of (layer.Pair l r)
+derivation-Pair l r = ap (fold-Tree Derivation layer_of) (sym (rolls-Pair (l, r))) ∙ fold-roll-Tree Derivation layer_of (layer.Pair (l, r))
 
 pub derivation-Left : (l : Tree) → derivation (Left l) ≡ left (derivation l)
 unfolding derivation
@@ -31,9 +31,9 @@ pub derivation-Repeat : (ts : List Tree) → derivation (Repeat ts) ≡ repeated
 unfolding derivation
 derivation-Repeat ts = ap (fold-Tree Derivation layer_of) (sym (rolls-Repeat ts)) ∙ fold-roll-Tree Derivation layer_of (layer.Repeat ts)
 
-pub derivation-Present : (t : Token) (l : Tree) → derivation (Present t l) ≡ present t (derivation l)
+pub derivation-Present : (t : Token) (l : Tree) → derivation (Present (t, l)) ≡ present t (derivation l)
 unfolding derivation
-derivation-Present t l = ap (fold-Tree Derivation layer_of) (sym (rolls-Present t l)) ∙ fold-roll-Tree Derivation layer_of (layer.Present t l)
+derivation-Present t l = ap (fold-Tree Derivation layer_of) (sym (rolls-Present (t, l))) ∙ fold-roll-Tree Derivation layer_of (layer.Present (t, l))
 
 pub derivation-Absent : (k : ℕ) → derivation (Absent k) ≡ absent k
 unfolding derivation

@@ -65,11 +65,11 @@ repeated (d ∷ ds) end = more d (repeated ds end)
 abbrev pub layer_of : Tree-F Derivation → Derivation
 layer_of (layer.Leaf t) = leaf t
 layer_of layer.Empty = nothing
-layer_of (layer.Pair d e) = pair d e
+layer_of (layer.Pair p) = pair p.0 p.1
 layer_of (layer.Left d) = left d
 layer_of (layer.Right d) = right d
 layer_of (layer.Repeat ds) = repeated ds done
-layer_of (layer.Present t d) = present t d
+layer_of (layer.Present p) = present p.0 p.1
 layer_of (layer.Absent k) = absent k
 layer_of (layer.Once ds) = once (repeated ds done)
 

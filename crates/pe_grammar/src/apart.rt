@@ -26,7 +26,10 @@ pub fn parts<'a>(_grammar: &[Entry], _form: u16, tree: &'a Tree) -> (&'a Tree, &
     ensures second_smaller { size-Tree result.1.now < size-Tree tree.now }
 {
     match tree {
-        Tree::Pair(first, second) => (first.get(), second.get()),
+        Tree::Pair(both) => {
+            let (first, second) = both.get();
+            (first, second)
+        }
         _ => unreachable!(),
     }
 }
@@ -55,7 +58,10 @@ pub fn clause<'a>(_grammar: &[Entry], _form: u16, tree: &'a Tree) -> Option<(Tok
     ensures smaller { MatchOption result (Derives _grammar.now _form (derivation tree.now)) (λ r. size-Tree r.1.now < size-Tree tree.now) }
 {
     match tree {
-        Tree::Present(token, inner) => Some((*token, inner.get())),
+        Tree::Present(both) => {
+            let (token, inner) = both.get();
+            Some((*token, inner))
+        }
         Tree::Absent(_) => None,
         _ => unreachable!(),
     }
@@ -82,7 +88,7 @@ pub fn items<'a>(_grammar: &[Entry], _form: u16, tree: &'a Tree) -> &'a [Tree]
     ensures smaller { (i : ℕ) (t : Tree) → slice_get result.now i ≡ Some t → size-Tree t < size-Tree tree.now }
 {
     match tree {
-        Tree::Repeat(items) => items.as_slice(),
+        Tree::Repeat(items) => items.get().as_slice(),
         _ => unreachable!(),
     }
 }
@@ -97,7 +103,7 @@ pub fn options<'a>(_grammar: &[Entry], _form: u16, tree: &'a Tree) -> &'a [Tree]
     ensures smaller { (i : ℕ) (t : Tree) → slice_get result.now i ≡ Some t → size-Tree t < size-Tree tree.now }
 {
     match tree {
-        Tree::Once(items) => items.as_slice(),
+        Tree::Once(items) => items.get().as_slice(),
         _ => unreachable!(),
     }
 }

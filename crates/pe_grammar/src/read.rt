@@ -75,7 +75,7 @@ fn read<'a>(
                 let (tree, rest) = read(alloc, grammar, part, after)?;
                 Ok((make_present(alloc, token, tree)?, rest))
             }
-            None => Ok((make_absent(set), tokens)),
+            None => Ok((make_absent(alloc, set)?, tokens)),
         },
     }
 }
@@ -102,7 +102,7 @@ fn repeat<'a>(
         items.push(tree)?;
         left = rest;
     }
-    Ok((make_repeat(items), left))
+    Ok((make_repeat(alloc, items)?, left))
 }
 
 /// Reads a list of options: a repetition within the bounds.
@@ -125,7 +125,7 @@ fn read_options<'a>(
 {
     let (items, used, rest) = read_once(alloc, grammar, part, each, bounds.once, tokens)?;
     if has_each(bounds.needed, used.as_slice()) {
-        Ok((make_once(items), rest))
+        Ok((make_once(alloc, items)?, rest))
     } else {
         Err(Stop::Left(rest.len()))
     }

@@ -6,18 +6,22 @@ use sqlite_items::{Boxed, Items};
 use std::alloc::{AllocError, Global};
 
 /// How a form has a text.
+///
+/// A node is two words, and what is larger lies behind it in one piece, so that the tree of a long text stays small.
 #[derive(Drop)]
 pub enum Tree {
     Leaf(Token),
     Empty,
-    Pair(Boxed<Tree>, Boxed<Tree>),
+    Pair(Boxed<(Tree, Tree)>),
     Left(Boxed<Tree>),
     Right(Boxed<Tree>),
-    Repeat(Items<Tree>),
-    Present(Token, Boxed<Tree>),
-    Absent(u128),
-    Once(Items<Tree>),
+    Repeat(Boxed<Items<Tree>>),
+    Present(Boxed<(Token, Tree)>),
+    Absent(Boxed<u128>),
+    Once(Boxed<Items<Tree>>),
 }
+
+const _: () = prove!(size_of::<Tree>() == 16);
 
 #[tactic(auto, using(crate::proofs::Trees::layers))]
 pub(crate) fn make_leaf(token: Token) -> Tree
@@ -37,7 +41,7 @@ pub(crate) fn make_empty() -> Tree
 pub(crate) fn make_pair(alloc: Global, first: Tree, second: Tree) -> Result<Tree, AllocError>
     ensures { IfOk result (λ t. derivation t ≡ pair (derivation first) (derivation second)) }
 {
-    Ok(Tree::Pair(Boxed::new(alloc, first)?, Boxed::new(alloc, second)?))
+    Ok(Tree::Pair(Boxed::new(alloc, (first, second))?))
 }
 
 #[tactic(auto, using(crate::proofs::Trees::layers))]
@@ -55,29 +59,29 @@ pub(crate) fn make_right(alloc: Global, tree: Tree) -> Result<Tree, AllocError>
 }
 
 #[tactic(auto, using(crate::proofs::Trees::layers))]
-pub(crate) fn make_repeat(items: Items<Tree>) -> Tree
-    ensures { derivation result ≡ repeated (map derivation items) done }
+pub(crate) fn make_repeat(alloc: Global, items: Items<Tree>) -> Result<Tree, AllocError>
+    ensures { IfOk result (λ t. derivation t ≡ repeated (map derivation items) done) }
 {
-    Tree::Repeat(items)
+    Ok(Tree::Repeat(Boxed::new(alloc, items)?))
 }
 
 #[tactic(auto, using(crate::proofs::Trees::layers))]
 pub(crate) fn make_present(alloc: Global, token: Token, tree: Tree) -> Result<Tree, AllocError>
     ensures { IfOk result (λ t. derivation t ≡ present token (derivation tree)) }
 {
-    Ok(Tree::Present(token, Boxed::new(alloc, tree)?))
+    Ok(Tree::Present(Boxed::new(alloc, (token, tree))?))
 }
 
 #[tactic(auto, using(crate::proofs::Trees::layers))]
-pub(crate) fn make_absent(set: u128) -> Tree
-    ensures { derivation result ≡ absent set }
+pub(crate) fn make_absent(alloc: Global, set: u128) -> Result<Tree, AllocError>
+    ensures { IfOk result (λ t. derivation t ≡ absent set) }
 {
-    Tree::Absent(set)
+    Ok(Tree::Absent(Boxed::new(alloc, set)?))
 }
 
 #[tactic(auto, using(crate::proofs::Trees::layers))]
-pub(crate) fn make_once(items: Items<Tree>) -> Tree
-    ensures { derivation result ≡ once (repeated (map derivation items) done) }
+pub(crate) fn make_once(alloc: Global, items: Items<Tree>) -> Result<Tree, AllocError>
+    ensures { IfOk result (λ t. derivation t ≡ once (repeated (map derivation items) done)) }
 {
-    Tree::Once(items)
+    Ok(Tree::Once(Boxed::new(alloc, items)?))
 }

@@ -13,3 +13,4 @@ mod tests;
 
 pub use boolean::{one_boolean, read_boolean};
 pub use statement::{Setting, Statement, one_statement, read_statement};
+pub use statement_table::{AT_STATEMENT, STATEMENT};

@@ -1,12 +1,12 @@
 //! Reads a long text by a grammar, for `bench/grammar` to time and to measure.
 //!
 //! The words are the kind of text, and how many times what it repeats stands in it: `assignments`, a block of
-//! assignments of four tokens each; `names`, one assignment of a list of names, of two tokens each; and `tokens`, which
-//! has the tokens of `names` and reads nothing.
+//! assignments of four tokens each; `names`, one assignment of a list of names, of two tokens each; `tree`, which has the
+//! tokens of `names` and makes their tree alone; and `tokens`, which has them and reads nothing.
 #![tactic(auto)]
 
-use pe_grammar::Token;
-use pe_grammar_sample::read_statement;
+use pe_grammar::{Token, parse};
+use pe_grammar_sample::{AT_STATEMENT, STATEMENT, read_statement};
 use sqlite_items::Items;
 use std::alloc::{AllocError, Global};
 use std::process::ExitCode;
@@ -74,13 +74,13 @@ fn timed(alloc: Global, kind: &str, count: u32) -> u8 {
     let Ok(tokens) = tokens else {
         return 7;
     };
-    if kind == "tokens" {
-        return 0;
-    }
-    match read_statement(alloc, tokens.as_slice()) {
-        Ok(_) => 0,
-        Err(_) => 7,
-    }
+    let tokens = tokens.as_slice();
+    let is_read = match kind {
+        "tokens" => true,
+        "tree" => parse(alloc, &STATEMENT, AT_STATEMENT, tokens).is_ok(),
+        _ => read_statement(alloc, tokens).is_ok(),
+    };
+    if is_read { 0 } else { 7 }
 }
 
 fn main(rt: HostRuntime) -> ExitCode {

@@ -8,18 +8,18 @@ unreachable-requires c =
     let g = c.args._grammar.now in
     let n = c.args._form in
     elim (clause_tree g n (second_at g n) (first_at g n) c.args.tree.now c.requires.clause c.requires.derives) [
-      | inl p ↦ c.in_default.not-Present p.0 p.1 p.2
+      | inl p ↦ c.in_default.not-Present (p.0, p.1) p.2
       | inr p ↦ c.in_default.not-Absent _ p
     ]
 
 pub returns-in-Present-clause-is : goal.returns-in-Present-clause-is
-returns-in-Present-clause-is c = present_is _ _ _ _ c.in-Present.is c.get.ensures
+returns-in-Present-clause-is c = present_is _ _ _ c.in-Present.is c.get.ensures
 
 pub returns-in-Present-clause-derives : goal.returns-in-Present-clause-derives
 returns-in-Present-clause-derives c =
     let g = c.args._grammar.now in
     let n = c.args._form in
-    present_derives g n (second_at g n) (first_at g n) c.in-Present.token _ _ c.requires.clause c.requires.derives (present_is _ _ c.get.result.now c.in-Present.token c.in-Present.is c.get.ensures)
+    present_derives g n (second_at g n) (first_at g n) c.get.result.now.0 _ _ c.requires.clause c.requires.derives (present_is _ _ c.get.result.now c.in-Present.is c.get.ensures)
 
 pub returns-in-Absent-clause-is : goal.returns-in-Absent-clause-is
 returns-in-Absent-clause-is c =

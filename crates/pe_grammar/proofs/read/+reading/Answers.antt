@@ -147,7 +147,7 @@ repeat-items-preserved t c =
 pub repeat-returns : goal.repeat-returns
 repeat-returns t c =
     let x = c.items.invariant.read done c.items.left.now (reads_done c.args.grammar.now c.requires.grammar c.args.form c.args.each c.items.left.now c.requires.«repeat» (sym c.items-test.ensures)) in
-    subst (λ d. Reads c.args.grammar.now c.args.form c.args.tokens.now d c.items.left.now) (sym c.make_repeat.ensures) x
+    subst (λ d. Reads c.args.grammar.now c.args.form c.args.tokens.now d c.items.left.now) (sym c.in_ok-make_repeat.ensures) x
 
 pub read-returns-in_err-tree-in-Some : goal.read-returns-in_err-tree-in-Some
 read-returns-in_err-tree-in-Some t c =
@@ -165,10 +165,10 @@ read-returns-in_ok-make_present-in-Some t c =
     subst (λ ts. Reads g c.args.form ts (derivation c.in_ok-make_present-in-Some.field-0) rest) (sym s.1)
     (subst (λ e. Reads g c.args.form (c.in-Some.token ∷ c.in-Some.after.now) e rest) (sym c.in_ok-make_present-in-Some.ensures) x)
 
-pub read-returns-in-None : goal.read-returns-in-None
-read-returns-in-None t c =
+pub read-returns-in_ok-make_absent-in-None : goal.read-returns-in_ok-make_absent-in-None
+read-returns-in_ok-make_absent-in-None t c =
     let x = reads_absent c.args.grammar.now c.requires.grammar c.args.form c.in-Clause.set c.in-Clause.part c.args.tokens.now c.in-Clause.ensures c.in-None.ensures in
-    subst (λ d. Reads c.args.grammar.now c.args.form c.args.tokens.now d c.args.tokens.now) (sym c.make_absent.ensures) x
+    subst (λ d. Reads c.args.grammar.now c.args.form c.args.tokens.now d c.args.tokens.now) (sym c.in_ok-make_absent-in-None.ensures) x
 
 not_taken : (set : ℕ) (xs used : List ℕ) (k : ℕ) → xs ≡ used → false ≡ taken set xs k → taken set used k ≡ true → ⊥
 not_taken set xs used k p q r = let s : taken set xs k ≡ taken set used k = ap (λ v. taken set v k) p in cc
@@ -278,7 +278,7 @@ read_options-returns-then-has_each t c =
     let has_all : HasEach c.args.bounds.needed c.as_slice.result.now = c.if-has_each.ensures.0 refl in
     let needs : HasEach c.args.bounds.needed (heads d) = subst (λ ks. HasEach c.args.bounds.needed ks) (c.as_slice.ensures ∙ sym c.in_ok-items.ensures.0) has_all in
     let x = reads_once g c.requires.grammar c.args.form c.args.part c.args.bounds c.args.tokens.now rest d c.requires.once c.in_ok-items.ensures.1 needs in
-    subst (λ e. Reads g c.args.form c.args.tokens.now e rest) (sym c.make_once.ensures) x
+    subst (λ e. Reads g c.args.form c.args.tokens.now e rest) (sym c.in_ok-make_once.ensures) x
 
 pub read_options-returns : goal.read_options-returns
 read_options-returns t c =
