@@ -1,0 +1,9 @@
+pub mod Bytes
+pub mod Language
+pub mod Start
+pub mod Verilog
+pub mod Upf
+pub mod Liberty
+pub mod MapFile
+pub mod Functions
+pub mod Cut

@@ -1,0 +1,19 @@
+//! Tokens: how the text of each language is cut into them, and why a text is not read.
+//!
+//! One walk serves all languages: from the text's start to its end, what starts at a place is passed over or is the next
+//! token. A language says what starts at a place, in a file of its own under `specs/`.
+#![tactic(auto)]
+
+mod fault;
+mod language;
+mod lexing;
+mod mode;
+mod run;
+mod token;
+
+pub use fault::{LexFault, ReadFault, Which};
+pub use language::{Class, Lang};
+pub use lexing::{cut, lex, part};
+pub use mode::Mode;
+pub use run::Run;
+pub use token::{Kind, Token};
