@@ -1,6 +1,7 @@
 pub mod Bytes
 pub mod Language
 pub mod Start
+pub mod Opening
 pub mod Verilog
 pub mod Upf
 pub mod Liberty

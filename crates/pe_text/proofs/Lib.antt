@@ -1,0 +1,4 @@
+pub mod Shorter
+pub mod Braces
+pub mod Walking
+pub mod Order
