@@ -15,6 +15,8 @@ mod map_file;
 mod mode;
 mod opening;
 mod run;
+#[cfg(test)]
+mod tests;
 mod token;
 mod upf;
 mod verilog;
