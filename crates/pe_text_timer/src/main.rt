@@ -15,11 +15,14 @@ const LIMIT: usize = 16_777_216;
 // A line of each language.
 const RTL: &[u8] = b"  assign sum_q = (first[7:0] + 8'hF0) ^ ~mask; // the carry is lost\n";
 
-const NETLIST: &[u8] = b"  NAND2X1 \\core/u_12 (.A(n_104), .B(\\data[3] ), .Y(n_105), .VDD(VDD), .VSS(VSS));\n";
+const NETLIST: &[u8] =
+    b"  NAND2X1 \\core/u_12 (.A(n_104), .B(\\data[3] ), .Y(n_105), .VDD(VDD), .VSS(VSS));\n";
 
-const UPF: &[u8] = b"set_isolation iso -domain PD -elements {core/q[3] core/q[2]} -clamp_value 0; # low\n";
+const UPF: &[u8] =
+    b"set_isolation iso -domain PD -elements {core/q[3] core/q[2]} -clamp_value 0; # low\n";
 
-const LIBERTY: &[u8] = b"    pin (Y) { direction : output; function : \"(A & B)\" ; related_power_pin : VDD\n }\n";
+const LIBERTY: &[u8] =
+    b"    pin (Y) { direction : output; function : \"(A & B)\" ; related_power_pin : VDD\n }\n";
 
 const MAP: &[u8] = b"reg core/state[3] core/state_reg_3_ inv # by hand\n";
 
@@ -64,7 +67,11 @@ fn words(rt: &HostRuntime) -> io::Result<Option<(bool, String, usize)>> {
     let (Some(what), Some(name), Some(size)) = (words.next(), words.next(), words.next()) else {
         return Ok(None);
     };
-    Ok(size.parse().ok().map(|size| (what == "cut", name, size)))
+    Ok(
+        size.parse()
+            .ok()
+            .map(|size| (what.as_str() == "cut", name, size)),
+    )
 }
 
 fn main(rt: HostRuntime) -> ExitCode {
