@@ -3,6 +3,7 @@ use Rattle.std.proofs.Common.{◌≡◌, ℕ, ◌<◌, ◌≤◌, Bool, true, fa
 use Rattle.pe_text.specs.declared.language.Class.{Class}
 use Rattle.pe_text.specs.declared.language.Class.TheVariants.{Verilog, Upf, Liberty, Map, LibertyFunction, UpfFunction}
 use Rattle.pe_text.specs.declared.token.Kind.{Kind}
+use Rattle.pe_text.specs.declared.token.Kind.TheVariants.{Number}
 use Rattle.pe_text.specs.declared.mode.Mode.{Mode}
 use Rattle.pe_text.specs.declared.run.Base.{Base}
 use Rattle.pe_text.specs.declared.run.Base.TheVariants.{Decimal}
@@ -191,3 +192,7 @@ gap_shorter class mode (b ∷ bs) rest e = let w : Within (length bs) (gap rest)
 pub token_shorter : (class : Class) (mode : Mode) (text : List ℕ) (kind : Kind) (rest : List ℕ) → start_at class mode text ≡ token kind rest → length rest < length text
 token_shorter class mode [] kind rest e = nothing class mode (token kind rest) (length rest < 0) (λ x. cc) e
 token_shorter class mode (b ∷ bs) kind rest e = let w : Within (length bs) (token kind rest) = let P : Start → Type 0 = Within (length bs) in subst P e (start_within class mode b bs) in omega (arith, w.fits)
+
+-- a number that begins with digits leaves no more than they do
+pub sized_le : (text rest : List ℕ) → sized text ≡ token Number rest → length rest ≤ length text
+sized_le text rest e = let P : Start → Type 0 = Within (length text) in let w : Within (length text) (token Number rest) = subst P e (sized_within text) in w.fits

@@ -8,3 +8,4 @@ pub mod Liberty
 pub mod MapFile
 pub mod Functions
 pub mod Cut
+pub mod Longest

@@ -23,7 +23,7 @@ mod verilog;
 
 pub use fault::{LexFault, ReadFault, Which};
 pub use language::{Class, Lang};
-pub use laws::{cut_order, one_cut};
+pub use laws::{cut_order, longest, one_cut};
 pub use lexing::{cut, lex, part};
 pub use mode::Mode;
 pub use run::{Base, Run};
