@@ -2,21 +2,20 @@
 use Rattle.std.proofs.Common.{◌≡◌, ◌⊎◌, ℕ, ◌≤◌, Bool, true, false, cond, ◌==◌, ◌&&◌, ◌||◌, List, [], ◌∷◌, ◌++◌, length, append_assoc, refl, sym, ap, ◌∙◌, subst, inl, inr, arith}
 use Rattle.std.proofs.lemmas.Bool.{eqb-true}
 use Rattle.std.specs.Prelude.{codes}
+use Rattle.pe_text.specs.declared.token.Kind.{Kind}
 use Rattle.pe_text.specs.declared.token.Kind.TheVariants.{Word, Escaped, Number, Text, Mark, End}
 use Rattle.pe_text.specs.declared.run.Base.{Base}
 use Rattle.pe_text.specs.declared.run.Base.TheVariants.{Binary, Octal, Decimal, Hexadecimal}
 use Rattle.pe_text.specs.declared.run.Run.TheVariants.{Digits}
 use Rattle.pe_text.specs.Bytes.{is_one_of, is_digit, is_digit_of, begins, behind}
-use Rattle.pe_text.specs.Start.{Start, gap, token, bad, or_else, gap_to}
-use Rattle.pe_text.specs.Verilog.{digits, based, unsigned, quote, sized, escaped, directive, backquote, operator, stroke, round, verilog_start}
+use Rattle.pe_text.specs.Start.{Start, gap, token, bad, or_else}
+use Rattle.pe_text.specs.Verilog.{digits, based, unsigned, quote, sized, verilog_start}
 use Rattle.pe_text.specs.Longest.{IsLongest, IsDigits, last, more, parted, letters, IsBased, plain, signed, IsNumber}
 use Rattle.pe_text.specs.Longest as form
+use Rattle.pe_text.proofs.OneKind.{Only, escaped_kind, backquote_kind, operator_kind, stroke_kind, round_kind}
 use Rattle.pe_text.proofs.Shorter.{behind_le, sized_le}
-use Rattle.pe_text.proofs.Runs.{both, behind_on, taken_le}
-
-or_right : (a b : Bool) → b ≡ true → (a || b) ≡ true
-or_right true b e = refl
-or_right false b e = e
+use Rattle.pe_text.proofs.Bools.{both, or_right}
+use Rattle.pe_text.proofs.Runs.{behind_on, taken_le}
 
 -- digits go on
 digit_on : (base : Base) (d : ℕ) (bs : List ℕ) → is_digit_of base d ≡ true → behind (Digits base) (d ∷ bs) ≡ behind (Digits base) bs
@@ -267,34 +266,25 @@ word b bs rest = record { is = tt }
 mark : (b : ℕ) (bs rest : List ℕ) → From b bs (token Mark rest)
 mark b bs rest = record { is = tt }
 
-escape : (b : ℕ) (bs rest : List ℕ) → From b bs (token Escaped rest)
-escape b bs rest = record { is = tt }
-
 stops : (b : ℕ) (bs : List ℕ) → From b bs bad
 stops b bs = record { is = tt }
 
-gap_to_from : (b : ℕ) (bs : List ℕ) (x y : ℕ) (text : List ℕ) → From b bs (gap_to x y text)
-gap_to_from b bs x y [] = stops b bs
-gap_to_from b bs x y (a ∷ []) = stops b bs
-gap_to_from b bs x y (a ∷ c ∷ cs) = either ((a == x) && (c == y)) b bs (gap cs) (gap_to x y (c ∷ cs)) (passes b bs cs) (gap_to_from b bs x y (c ∷ cs))
+-- tokens of another kind
+no_number : (b : ℕ) (bs : List ℕ) (s : Start) (kind : Kind) → (kind ≡ Number → ⊥) → Only kind s → From b bs s
+no_number b bs (gap rest) kind n o = passes b bs rest
+no_number b bs (token Word rest) kind n o = word b bs rest
+no_number b bs (token Escaped rest) kind n o = record { is = tt }
+no_number b bs (token Number rest) kind n o = absurd (n (sym o.is))
+no_number b bs (token Text rest) kind n o = record { is = tt }
+no_number b bs (token Mark rest) kind n o = mark b bs rest
+no_number b bs (token End rest) kind n o = record { is = tt }
+no_number b bs bad kind n o = stops b bs
 
-round_from : (b : ℕ) (bs text : List ℕ) → From b bs (round text)
-round_from b bs text = search (either, gap_to_from, mark)
+marks : (b : ℕ) (bs : List ℕ) (s : Start) → Only Mark s → From b bs s
+marks b bs s o = no_number b bs s Mark (λ e. cc) o
 
-stroke_from : (b : ℕ) (bs text : List ℕ) → From b bs (stroke text)
-stroke_from b bs text = search (either, passes, gap_to_from, mark)
-
-escaped_from : (b : ℕ) (bs text : List ℕ) → From b bs (escaped text)
-escaped_from b bs text = search (either, escape, stops)
-
-directive_from : (b : ℕ) (bs name text : List ℕ) → From b bs (directive name text)
-directive_from b bs name text = search (either, passes, mark)
-
-backquote_from : (b : ℕ) (bs text : List ℕ) → From b bs (backquote text)
-backquote_from b bs text = search (either, directive_from, stops)
-
-operator_from : (b : ℕ) (bs text : List ℕ) → From b bs (operator text)
-operator_from b bs text = search (either, mark, stops)
+escapes : (b : ℕ) (bs : List ℕ) (s : Start) → Only Escaped s → From b bs s
+escapes b bs s o = no_number b bs s Escaped (λ e. cc) o
 
 -- a start that is a number, by what is known where it is one
 known : (b : ℕ) (bs : List ℕ) (s : Start) → ((rest : List ℕ) → s ≡ token Number rest → NumberFrom b bs rest) → From b bs s
@@ -322,7 +312,8 @@ quote_case : (b : ℕ) (bs : List ℕ) (t : Start) → From b bs t → From b bs
 quote_case b bs t f = unfold_quote (b == 39) b bs t refl f
 
 verilog_from : (b : ℕ) (bs : List ℕ) → From b bs (verilog_start (b ∷ bs))
-verilog_from b bs = search (either, passes, word, mark, round_from, digit_case, quote_case, escaped_from, backquote_from, stroke_from, operator_from) depth 16
+verilog_from b bs =
+    search (either, passes, word, mark, marks, escapes, round_kind, digit_case, quote_case, escaped_kind, backquote_kind, stroke_kind, operator_kind) depth 20
 
 take_from : (b : ℕ) (bs rest : List ℕ) → NumberFrom b bs rest → IsLongest (λ front behind. IsNumber front) (b ∷ bs) rest
 unfolding NumberFrom

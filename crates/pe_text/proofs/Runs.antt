@@ -1,16 +1,10 @@
 -- What a run takes is the longest on which it goes on.
-use Rattle.std.proofs.Common.{◌≡◌, ℕ, ◌+◌, ◌≤◌, Bool, true, false, cond, ◌&&◌, List, [], ◌∷◌, ◌++◌, length, length-append, refl, sym, ap, ◌∙◌, subst, arith}
+use Rattle.std.proofs.Common.{◌≡◌, ℕ, ◌+◌, ◌≤◌, Bool, true, false, cond, List, [], ◌∷◌, ◌++◌, length, length-append, refl, sym, ap, ◌∙◌, subst, arith}
 use Rattle.pe_text.specs.declared.run.Run.{Run}
 use Rattle.pe_text.specs.Bytes.{goes_on, behind}
 use Rattle.pe_text.specs.Longest.{IsLongest, all_go_on, IsRun, IsWord}
+use Rattle.pe_text.proofs.Bools.{both, and_true}
 use Rattle.pe_text.proofs.Shorter.{behind_le}
-
-pub both : (a b : Bool) → (a && b) ≡ true → (a ≡ true) × (b ≡ true)
-both true b e = (refl, e)
-both false b e = absurd (let x : false ≡ true = e in cc)
-
-and_true : (a b : Bool) → a ≡ true → b ≡ true → (a && b) ≡ true
-and_true a b e f = rw (e, f)
 
 -- where less is left, more was taken
 pub taken_le : (text front rest other after : List ℕ) → text ≡ front ++ rest → text ≡ other ++ after → length rest ≤ length after → length other ≤ length front

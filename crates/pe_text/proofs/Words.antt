@@ -1,20 +1,20 @@
 -- A word is a first byte and a run behind it.
-use Rattle.std.proofs.Common.{◌≡◌, ℕ, Bool, true, false, cond, ◌==◌, ◌&&◌, List, [], ◌∷◌, refl, sym, ◌∙◌, subst}
+use Rattle.std.proofs.Common.{◌≡◌, ℕ, Bool, true, false, cond, List, [], ◌∷◌, refl, sym, ◌∙◌, subst}
 use Rattle.pe_text.specs.declared.language.Class.{Class}
 use Rattle.pe_text.specs.declared.language.Class.TheVariants as class
+use Rattle.pe_text.specs.declared.token.Kind.{Kind}
 use Rattle.pe_text.specs.declared.token.Kind.TheVariants.{Word, Escaped, Number, Text, Mark, End}
 use Rattle.pe_text.specs.declared.mode.Mode.{Mode}
-use Rattle.pe_text.specs.declared.run.Base.{Base}
-use Rattle.pe_text.specs.declared.run.Run.{Run}
 use Rattle.pe_text.specs.declared.run.Run.TheVariants as run
 use Rattle.pe_text.specs.Bytes.{behind}
-use Rattle.pe_text.specs.Start.{Start, gap, token, bad, or_else, gap_to, closed, quoted}
-use Rattle.pe_text.specs.Verilog.{digits, based, unsigned, quote, sized, escaped, directive, backquote, operator, stroke, round, verilog_start}
+use Rattle.pe_text.specs.Start.{Start, gap, token, bad}
+use Rattle.pe_text.specs.Verilog.{verilog_start}
 use Rattle.pe_text.specs.Upf.{outside_start, inside_start, upf_start}
 use Rattle.pe_text.specs.Liberty.{liberty_start}
 use Rattle.pe_text.specs.MapFile.{map_start}
 use Rattle.pe_text.specs.Cut.{start_at}
 use Rattle.pe_text.specs.Longest.{IsLongest, IsWord, word_run, HasPlainWords}
+use Rattle.pe_text.proofs.OneKind.{Only, gap_to_kind, quoted_kind, quote_kind, sized_kind, escaped_kind, backquote_kind, operator_kind, stroke_kind, round_kind}
 use Rattle.pe_text.proofs.Shorter.{at_end}
 use Rattle.pe_text.proofs.Runs.{word_longest}
 
@@ -38,15 +38,6 @@ word want = record { is = refl }
 mark : (want rest : List ℕ) → Leaves want (token Mark rest)
 mark want rest = record { is = tt }
 
-number : (want rest : List ℕ) → Leaves want (token Number rest)
-number want rest = record { is = tt }
-
-escape : (want rest : List ℕ) → Leaves want (token Escaped rest)
-escape want rest = record { is = tt }
-
-text : (want rest : List ℕ) → Leaves want (token Text rest)
-text want rest = record { is = tt }
-
 ends : (want rest : List ℕ) → Leaves want (token End rest)
 ends want rest = record { is = tt }
 
@@ -56,61 +47,32 @@ passes want rest = record { is = tt }
 stops : (want : List ℕ) → Leaves want bad
 stops want = record { is = tt }
 
-other : (want : List ℕ) (s t : Start) → Leaves want s → Leaves want t → Leaves want (or_else s t)
-other want (gap rest) t p q = p
-other want (token kind rest) t p q = p
-other want bad t p q = q
+-- tokens of another kind
+no_word : (want : List ℕ) (s : Start) (kind : Kind) → (kind ≡ Word → ⊥) → Only kind s → Leaves want s
+no_word want (gap rest) kind n o = passes want rest
+no_word want (token Word rest) kind n o = absurd (n (sym o.is))
+no_word want (token Escaped rest) kind n o = record { is = tt }
+no_word want (token Number rest) kind n o = record { is = tt }
+no_word want (token Text rest) kind n o = record { is = tt }
+no_word want (token Mark rest) kind n o = mark want rest
+no_word want (token End rest) kind n o = ends want rest
+no_word want bad kind n o = stops want
 
-gap_to_leaves : (want : List ℕ) (x y : ℕ) (bs : List ℕ) → Leaves want (gap_to x y bs)
-gap_to_leaves want x y [] = stops want
-gap_to_leaves want x y (a ∷ []) = stops want
-gap_to_leaves want x y (a ∷ b ∷ bs) = either ((a == x) && (b == y)) want (gap bs) (gap_to x y (b ∷ bs)) (passes want bs) (gap_to_leaves want x y (b ∷ bs))
+numbers : (want : List ℕ) (s : Start) → Only Number s → Leaves want s
+numbers want s o = no_word want s Number (λ e. cc) o
 
-closed_leaves : (want bs : List ℕ) → Leaves want (closed bs)
-closed_leaves want [] = stops want
-closed_leaves want (b ∷ bs) = search (either, text, stops)
+marks : (want : List ℕ) (s : Start) → Only Mark s → Leaves want s
+marks want s o = no_word want s Mark (λ e. cc) o
 
-quoted_leaves : (want : List ℕ) (r : Run) (bs : List ℕ) → Leaves want (quoted r bs)
-quoted_leaves want r bs = closed_leaves want (behind r bs)
+escapes : (want : List ℕ) (s : Start) → Only Escaped s → Leaves want s
+escapes want s o = no_word want s Escaped (λ e. cc) o
 
-digits_leaves : (want : List ℕ) (base : Base) (bs : List ℕ) → Leaves want (digits base bs)
-digits_leaves want base bs = search (either, number, stops)
-
-based_leaves : (want : List ℕ) (b : ℕ) (bs : List ℕ) → Leaves want (based b bs)
-based_leaves want b bs = search (either, digits_leaves, stops)
-
-unsigned_leaves : (want bs : List ℕ) → Leaves want (unsigned bs)
-unsigned_leaves want [] = stops want
-unsigned_leaves want (b ∷ bs) = based_leaves want b bs
-
-quote_leaves : (want bs : List ℕ) → Leaves want (quote bs)
-quote_leaves want [] = stops want
-quote_leaves want (b ∷ bs) = search (either, unsigned_leaves, based_leaves)
-
-sized_leaves : (want bs : List ℕ) → Leaves want (sized bs)
-sized_leaves want [] = number want []
-sized_leaves want (b ∷ bs) = search (either, other, quote_leaves, number)
-
-escaped_leaves : (want bs : List ℕ) → Leaves want (escaped bs)
-escaped_leaves want bs = search (either, escape, stops)
-
-directive_leaves : (want name bs : List ℕ) → Leaves want (directive name bs)
-directive_leaves want name bs = search (either, passes, mark)
-
-backquote_leaves : (want bs : List ℕ) → Leaves want (backquote bs)
-backquote_leaves want bs = search (either, directive_leaves, stops)
-
-operator_leaves : (want bs : List ℕ) → Leaves want (operator bs)
-operator_leaves want bs = search (either, mark, stops)
-
-stroke_leaves : (want bs : List ℕ) → Leaves want (stroke bs)
-stroke_leaves want bs = search (either, passes, gap_to_leaves, mark)
-
-round_leaves : (want bs : List ℕ) → Leaves want (round bs)
-round_leaves want bs = search (either, gap_to_leaves, mark)
+texts : (want : List ℕ) (s : Start) → Only Text s → Leaves want s
+texts want s o = no_word want s Text (λ e. cc) o
 
 verilog_leaves : (b : ℕ) (bs : List ℕ) → Leaves (behind run.Name bs) (verilog_start (b ∷ bs))
-verilog_leaves b bs = search (either, passes, word, mark, round_leaves, sized_leaves, quote_leaves, escaped_leaves, backquote_leaves, stroke_leaves, operator_leaves) depth 16
+verilog_leaves b bs =
+    search (either, passes, word, mark, marks, numbers, escapes, round_kind, sized_kind, quote_kind, escaped_kind, backquote_kind, stroke_kind, operator_kind) depth 20
 
 outside_leaves : (fresh : Bool) (b : ℕ) (bs : List ℕ) → Leaves (behind run.Command bs) (outside_start fresh b bs)
 outside_leaves fresh b bs = search (either, ends, mark, passes, word)
@@ -123,10 +85,10 @@ count_leaves true fresh b bs = outside_leaves fresh b bs
 count_leaves false fresh b bs = inside_leaves b bs
 
 upf_leaves : (mode : Mode) (b : ℕ) (bs : List ℕ) → Leaves (behind (word_run class.Upf mode) bs) (upf_start mode (b ∷ bs))
-upf_leaves mode b bs = search (either, passes, mark, quoted_leaves, stops, count_leaves) depth 16
+upf_leaves mode b bs = search (either, passes, mark, texts, quoted_kind, stops, count_leaves) depth 16
 
 liberty_leaves : (mode : Mode) (b : ℕ) (bs : List ℕ) → Leaves (behind run.Value bs) (liberty_start mode (b ∷ bs))
-liberty_leaves mode b bs = search (either, ends, passes, mark, quoted_leaves, gap_to_leaves, word) depth 16
+liberty_leaves mode b bs = search (either, ends, passes, mark, texts, quoted_kind, gap_to_kind, word) depth 16
 
 map_leaves : (b : ℕ) (bs : List ℕ) → Leaves (behind run.Entry bs) (map_start (b ∷ bs))
 map_leaves b bs = search (either, passes, ends, word)

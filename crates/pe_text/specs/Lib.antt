@@ -1,5 +1,6 @@
 pub mod Bytes
 pub mod Language
+pub mod Faults
 pub mod Start
 pub mod Opening
 pub mod Verilog

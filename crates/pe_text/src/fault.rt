@@ -2,6 +2,8 @@
 
 ghost use Rattle.std.specs.Prelude.{◌≡◌};
 ghost use Rattle.pe_text.specs.declared.fault.LexFault.TheVariants as lex;
+ghost use Rattle.pe_text.specs.declared.fault.ReadFault.TheVariants as read;
+ghost use Rattle.pe_text.specs.Faults.{read_fault_of};
 
 use pe_base::{Name, Want};
 use std::alloc::{AllocError, AllocFailed};
@@ -70,4 +72,40 @@ pub enum ReadFault {
     /// The text has more of something than is read.
     #[error("too much at byte {at}")]
     Limit { at: u32, which: Which },
+}
+
+impl From<Want> for ReadFault {
+    ghost from_gives = { λ _ e. e ≡ read.Memory };
+
+    fn from(_want: Want) -> ReadFault {
+        ReadFault::Memory
+    }
+}
+
+impl From<AllocError> for ReadFault {
+    ghost from_gives = { λ _ e. e ≡ read.Memory };
+
+    fn from(_error: AllocError) -> ReadFault {
+        ReadFault::Memory
+    }
+}
+
+impl<T: Drop> From<AllocFailed<T>> for ReadFault {
+    ghost from_gives = { λ _ e. e ≡ read.Memory };
+
+    fn from(_error: AllocFailed<T>) -> ReadFault {
+        ReadFault::Memory
+    }
+}
+
+/// A bad token is wrong where it starts.
+impl From<LexFault> for ReadFault {
+    ghost from_gives = { λ fault e. e ≡ read_fault_of fault };
+
+    fn from(fault: LexFault) -> ReadFault {
+        match fault {
+            LexFault::Memory => ReadFault::Memory,
+            LexFault::Bad { at } => ReadFault::Syntax { at },
+        }
+    }
 }

@@ -56,9 +56,10 @@ fn place(count: usize, rest: &[u8]) -> u32
     (count - rest.len()) as u32
 }
 
-/// The tokens of a text.
+/// The tokens of a text of at most 16 MiB, in its order, without what is passed over.
 ///
-/// `Bad` comes where what starts at a place is neither passed over nor a token, or is not closed; `at` is that place.
+/// `Bad` comes exactly where the text is bad: at a place that the tokens before it lead to, what starts there is neither
+/// passed over nor a token, or is not closed. `at` is the first byte of that place.
 pub fn cut(alloc: Global, class: Class, text: &[u8]) -> Result<Items<Token>, LexFault>
     requires { length text.now ≤ 16777216 }
     ensures found { IfOk result (λ tokens. IsCut class text.now tokens) }
@@ -91,7 +92,7 @@ pub fn cut(alloc: Global, class: Class, text: &[u8]) -> Result<Items<Token>, Lex
     Ok(tokens)
 }
 
-/// The tokens of a text of a language, as `cut`.
+/// The tokens of a text of a language, as `cut` has them: `Bad` comes exactly where the text is bad.
 pub fn lex(alloc: Global, lang: Lang, text: &[u8]) -> Result<Items<Token>, LexFault>
     requires { length text.now ≤ 16777216 }
     ensures found { IfOk result (λ tokens. IsCut (class_of lang) text.now tokens) }
@@ -102,7 +103,7 @@ pub fn lex(alloc: Global, lang: Lang, text: &[u8]) -> Result<Items<Token>, LexFa
     cut(alloc, lang.class(), text)
 }
 
-/// The bytes of a part of a text.
+/// The bytes of a part of a text, as of a token's span.
 pub fn part(text: &[u8], span: Span) -> &[u8]
     requires order { span.from ≤ span.to }
     requires within { span.to ≤ length text.now }
