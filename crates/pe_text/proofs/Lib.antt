@@ -1,0 +1,10 @@
+pub mod Bools
+pub mod Shorter
+pub mod Braces
+pub mod Walking
+pub mod Order
+pub mod Runs
+pub mod OneKind
+pub mod Words
+pub mod Numbers
+pub mod Marks
