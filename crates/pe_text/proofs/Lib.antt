@@ -3,6 +3,9 @@ pub mod Shorter
 pub mod Braces
 pub mod Walking
 pub mod Order
+pub mod Firsts
+pub mod InputNames
+pub mod Scans
 pub mod Runs
 pub mod OneKind
 pub mod Words

@@ -9,4 +9,13 @@ pub mod Liberty
 pub mod MapFile
 pub mod Functions
 pub mod Cut
+pub mod Lexemes
+pub mod VerilogLeftOut
+pub mod Commands
+pub mod LeftOut
+pub mod Nesting
+pub mod Width
+pub mod Inputs
+pub mod Limits
+pub mod Scan
 pub mod Longest

@@ -37,7 +37,7 @@ fn behind_index(text: &[u8]) -> &[u8]
 }
 
 /// What stands behind the name whose first byte stands before.
-fn behind_input(text: &[u8]) -> &[u8]
+pub(crate) fn behind_input(text: &[u8]) -> &[u8]
     ensures { result.now ≡ behind_input text.now }
 {
     behind_index(Run::Input.behind(text))
@@ -81,7 +81,7 @@ pub fn liberty_function_start(text: &[u8]) -> Opening<'_>
 }
 
 /// What stands behind a 1: `'b0` or `'b1` goes on the number.
-fn behind_one(text: &[u8]) -> &[u8]
+pub(crate) fn behind_one(text: &[u8]) -> &[u8]
     ensures { result.now ≡ behind_one text.now }
 {
     match text {

@@ -1,5 +1,9 @@
 //! Tokens: parts of a text with their kinds.
 
+ghost use Rattle.std.specs.Prelude.{◌≡◌, length};
+ghost use Rattle.std.specs.List.{slice_range};
+ghost use Rattle.pe_text.specs.Lexemes.{IsPartOf};
+
 use pe_base::Span;
 
 /// What a token is.
@@ -24,4 +28,12 @@ pub enum Kind {
 pub struct Token {
     pub kind: Kind,
     pub span: Span,
+}
+
+/// The bytes of a token.
+pub(crate) fn bytes_of(text: &[u8], token: Token) -> &[u8]
+    requires { IsPartOf (length text.now) token }
+    ensures { result.now ≡ slice_range text.now token.span.from token.span.to }
+{
+    &text[token.span.from as usize..token.span.to as usize]
 }
