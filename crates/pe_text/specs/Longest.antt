@@ -1,6 +1,7 @@
 -- A token is the longest of its form that starts at its place. A form is said of a beginning of a text, and of what stands
 -- behind that beginning.
 use Rattle.std.specs.Prelude.{◌≡◌, ℕ, ◌==◌, ◌≤◌, Bool, true, false, ◌&&◌, ◌||◌, List, [], ◌∷◌, ◌++◌, codes, length, if◌then◌else◌}
+use Rattle.std.specs.List.{list_all}
 use Rattle.pe_base.specs.Names.{has_name}
 use Rattle.pe_text.specs.declared.language.Class.{Class}
 use Rattle.pe_text.specs.declared.language.Class.TheVariants as class
@@ -9,7 +10,7 @@ use Rattle.pe_text.specs.declared.run.Base.{Base}
 use Rattle.pe_text.specs.declared.run.Base.TheVariants.{Binary, Octal, Decimal, Hexadecimal}
 use Rattle.pe_text.specs.declared.run.Run.{Run}
 use Rattle.pe_text.specs.declared.run.Run.TheVariants as run
-use Rattle.pe_text.specs.Bytes.{is_one_of, is_digit_of, goes_on}
+use Rattle.pe_text.specs.Bytes.{is_one_of, is_digit, is_digit_of, begins_name, goes_on}
 use Rattle.pe_text.specs.Upf.{open_braces}
 use Rattle.pe_text.specs.Verilog.{triples, pairs, operators, brackets}
 
@@ -46,6 +47,14 @@ abbrev pub HasPlainWords : Class → Type 0
 HasPlainWords class.LibertyFunction = ⊥
 HasPlainWords class.UpfFunction = ⊥
 HasPlainWords _ = Unit {0}
+
+-- a name of Verilog (IEEE 1364): A to Z, a to z or _, and then any of these, digits and $
+abbrev pub is_name_byte : ℕ → Bool
+is_name_byte b = begins_name b || is_digit b || (b == 36)
+
+abbrev pub is_name : List ℕ → Bool
+is_name [] = false
+is_name (b ∷ bs) = begins_name b && list_all is_name_byte bs
 
 -- digits of a base, with single _ between them
 pub data IsDigits (base : Base) : List ℕ → Type 0 where

@@ -5,7 +5,7 @@ ghost use Rattle.pe_text.specs.declared.token.Kind.TheVariants.{Word, Number, Ma
 ghost use Rattle.pe_text.specs.Bytes.{has_first, behind};
 ghost use Rattle.pe_text.specs.Start.{token};
 ghost use Rattle.pe_text.specs.Cut.{start_at, IsCut, IsBadAt, AreInOrder, joined};
-ghost use Rattle.pe_text.specs.Longest.{IsLongest, IsRun, IsWord, IsNumber, is_mark, word_run, HasPlainWords};
+ghost use Rattle.pe_text.specs.Longest.{IsLongest, IsRun, IsWord, is_name, IsNumber, is_mark, word_run, HasPlainWords};
 
 use crate::language::Class;
 use crate::mode::Mode;
@@ -31,12 +31,14 @@ pub fn cut_order()
         IsCut class text tokens → joined text 0 tokens ≡ text }
 {}
 
-/// What is taken is the longest of its form: a run of bytes, a word, a number of Verilog, and a mark of Verilog that is no
-/// directive.
+/// What is taken is the longest of its form: a run of bytes, a word, and of Verilog a name, a number, and a mark that is
+/// no directive.
 pub fn longest()
     ensures run { (run : Run) (text : List ℕ) → IsLongest (IsRun run) text (behind run text) }
     ensures word { (class : Class) (mode : Mode) (text rest : List ℕ) →
         HasPlainWords class → start_at class mode text ≡ token Word rest → IsLongest (IsWord (word_run class mode)) text rest }
+    ensures name { (mode : Mode) (text rest : List ℕ) →
+        start_at Class.Verilog mode text ≡ token Word rest → IsLongest (λ front _. is_name front ≡ true) text rest }
     ensures number { (mode : Mode) (text rest : List ℕ) →
         start_at Class.Verilog mode text ≡ token Number rest → IsLongest (λ front _. IsNumber front) text rest }
     ensures mark { (mode : Mode) (text rest : List ℕ) →
