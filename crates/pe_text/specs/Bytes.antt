@@ -1,8 +1,10 @@
 -- Tests on bytes, and runs of bytes: how far what has begun at a place goes on.
 use Rattle.std.specs.Prelude.{ℕ, ◌==◌, Bool, false, not, ◌&&◌, ◌||◌, nat_le, List, [], ◌∷◌, codes, if◌then◌else◌}
 use Rattle.std.specs.List.{list_any}
+use Rattle.pe_text.specs.declared.run.Base.{Base}
+use Rattle.pe_text.specs.declared.run.Base.TheVariants.{Binary, Octal, Decimal, Hexadecimal}
 use Rattle.pe_text.specs.declared.run.Run.{Run}
-use Rattle.pe_text.specs.declared.run.Run.TheVariants.{Line, Name, Escaped, Decimal, Binary, Octal, Hexadecimal, Command, Braced, UpfText, Value, LibertyText, Entry, Input, Index}
+use Rattle.pe_text.specs.declared.run.Run.TheVariants.{Line, Name, Escaped, Digits, Command, Braced, UpfText, Value, LibertyText, Entry, Input, Index}
 
 -- the byte is one of these
 abbrev pub is_one_of : List ℕ → ℕ → Bool
@@ -28,18 +30,16 @@ begins_name b = (nat_le 65 b && nat_le b 90) || (nat_le 97 b && nat_le b 122) ||
 abbrev pub is_graphic : ℕ → Bool
 is_graphic b = nat_le 33 b && nat_le b 126
 
--- digits of the bases 2, 8 and 16, with x, z and ?
+-- a digit of a base other than ten that is not known
 abbrev pub is_unknown : ℕ → Bool
 is_unknown b = is_one_of (codes "xXzZ?") b
 
-abbrev pub is_binary : ℕ → Bool
-is_binary b = (b == 48) || (b == 49) || is_unknown b
-
-abbrev pub is_octal : ℕ → Bool
-is_octal b = (nat_le 48 b && nat_le b 55) || is_unknown b
-
-abbrev pub is_hexadecimal : ℕ → Bool
-is_hexadecimal b = is_digit b || (nat_le 65 b && nat_le b 70) || (nat_le 97 b && nat_le b 102) || is_unknown b
+-- a digit of the base
+abbrev pub is_digit_of : Base → ℕ → Bool
+is_digit_of Binary b = (b == 48) || (b == 49) || is_unknown b
+is_digit_of Octal b = (nat_le 48 b && nat_le b 55) || is_unknown b
+is_digit_of Decimal b = is_digit b
+is_digit_of Hexadecimal b = is_digit b || (nat_le 65 b && nat_le b 70) || (nat_le 97 b && nat_le b 102) || is_unknown b
 
 -- the text has a first byte, and it is such a one
 abbrev pub begins : (ℕ → Bool) → List ℕ → Bool
@@ -80,10 +80,7 @@ abbrev pub goes_on : Run → List ℕ → Bool
 goes_on Line text = begins (λ b. not (b == 10)) text
 goes_on Name text = begins (λ b. begins_name b || is_digit b || (b == 36)) text
 goes_on Escaped text = begins is_graphic text
-goes_on Decimal text = goes_on_number is_digit text
-goes_on Binary text = goes_on_number is_binary text
-goes_on Octal text = goes_on_number is_octal text
-goes_on Hexadecimal text = goes_on_number is_hexadecimal text
+goes_on (Digits base) text = goes_on_number (is_digit_of base) text
 goes_on Command text = begins is_command text && not (is_continued text)
 goes_on Braced text = begins is_braced text && not (is_continued text)
 goes_on UpfText text = begins (λ b. nat_le b 126 && not (b == 34)) text

@@ -1,9 +1,11 @@
 pub mod Bytes
 pub mod Language
 pub mod Start
+pub mod Opening
 pub mod Verilog
 pub mod Upf
 pub mod Liberty
 pub mod MapFile
 pub mod Functions
 pub mod Cut
+pub mod Longest

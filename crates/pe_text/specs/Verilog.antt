@@ -2,22 +2,23 @@
 use Rattle.std.specs.Prelude.{ℕ, ◌==◌, ◌-◌, not, ◌&&◌, List, [], ◌∷◌, codes, take, drop, length, if◌then◌else◌}
 use Rattle.pe_base.specs.Names.{has_name}
 use Rattle.pe_text.specs.declared.token.Kind.TheVariants.{Word, Escaped, Number, Mark}
-use Rattle.pe_text.specs.declared.run.Run.{Run}
+use Rattle.pe_text.specs.declared.run.Base.{Base}
+use Rattle.pe_text.specs.declared.run.Base.TheVariants.{Binary, Octal, Decimal, Hexadecimal}
 use Rattle.pe_text.specs.declared.run.Run.TheVariants as run
-use Rattle.pe_text.specs.Bytes.{is_one_of, is_white, is_digit, is_graphic, begins_name, begins, has_first, goes_on, behind}
+use Rattle.pe_text.specs.Bytes.{is_one_of, is_white, is_digit, is_graphic, begins_name, begins, has_first, is_digit_of, behind}
 use Rattle.pe_text.specs.Start.{Start, gap, token, bad, or_else, gap_to}
 
--- the digits of a number with a base; the first of them is no _
-abbrev pub digits : Run → List ℕ → Start
-digits run text = if goes_on run text && not (has_first 95 text) then token Number (behind run text) else bad
+-- the digits of a number with a base; a _ stands only between two of them
+abbrev pub digits : Base → List ℕ → Start
+digits base text = if begins (is_digit_of base) text then token Number (behind (run.Digits base) text) else bad
 
 -- a base letter, in either case, and the digits behind it
 abbrev pub based : ℕ → List ℕ → Start
 based letter text =
-    if is_one_of (codes "bB") letter then digits run.Binary text
-    else if is_one_of (codes "oO") letter then digits run.Octal text
-    else if is_one_of (codes "dD") letter then digits run.Decimal text
-    else if is_one_of (codes "hH") letter then digits run.Hexadecimal text
+    if is_one_of (codes "bB") letter then digits Binary text
+    else if is_one_of (codes "oO") letter then digits Octal text
+    else if is_one_of (codes "dD") letter then digits Decimal text
+    else if is_one_of (codes "hH") letter then digits Hexadecimal text
     else bad
 
 abbrev pub unsigned : List ℕ → Start
@@ -90,7 +91,7 @@ verilog_start (b ∷ bs) =
     else if begins_name b then token Word (behind run.Name bs)
     else if is_one_of brackets b then token Mark bs
     else if b == 40 then round bs
-    else if is_digit b then sized (behind run.Decimal bs)
+    else if is_digit b then sized (behind (run.Digits Decimal) bs)
     else if b == 39 then quote bs
     else if b == 92 then escaped bs
     else if b == 96 then backquote bs

@@ -4,16 +4,27 @@
 //! token. A language says what starts at a place, in a file of its own under `specs/`.
 #![tactic(auto)]
 
+mod bytes;
 mod fault;
+mod functions;
 mod language;
+mod laws;
 mod lexing;
+mod liberty;
+mod map_file;
 mod mode;
+mod opening;
 mod run;
+#[cfg(test)]
+mod tests;
 mod token;
+mod upf;
+mod verilog;
 
 pub use fault::{LexFault, ReadFault, Which};
 pub use language::{Class, Lang};
+pub use laws::{cut_order, longest, one_cut};
 pub use lexing::{cut, lex, part};
 pub use mode::Mode;
-pub use run::Run;
+pub use run::{Base, Run};
 pub use token::{Kind, Token};
