@@ -60,7 +60,8 @@ fn add_corrupt(pin: u32, values: &[Val], corrupt: &mut ArrayVec<u32, 10>)
     }
 }
 
-fn is_among(pins: &[u32], pin: u32) -> bool
+/// Whether the pin is in the list.
+pub(crate) fn is_among(pins: &[u32], pin: u32) -> bool
     ensures { result ≡ is_in pins.now pin }
 {
     pins.iter().any(|other| *other == pin)
