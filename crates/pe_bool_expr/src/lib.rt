@@ -21,3 +21,6 @@ pub use expr::Expr;
 pub use fault::ExprFault;
 pub use reading::{one_function, parse};
 pub use style::Style;
+
+#[cfg(test)]
+mod tests;

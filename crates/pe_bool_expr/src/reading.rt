@@ -142,6 +142,8 @@ pub fn parse(alloc: Global, text: &[u8], style: Style, names: &[Name]) -> Result
     ensures found { IfOk result (λ e. IsFunction style names.now text.now e) }
     // The function that a text is is answered, unless memory runs out.
     ensures only { (e : Expr) → IsFunction style names.now text.now e → IsAnswered e result }
+    // So it may be evaluated.
+    ensures few { IfOk result (λ e. length (different (pins_in e)) ≤ 10) }
     ensures syntax { (at : ℕ) → result ≡ Err (fault.Syntax at) → IsSyntaxAt style text.now at }
     ensures no_name { (at : ℕ) → result ≡ Err (fault.NoName at) → IsNoNameAt style names.now text.now at }
     ensures deep { (at : ℕ) → result ≡ Err (fault.Deep at) → IsDeepAt style text.now at }

@@ -1,4 +1,5 @@
-use Rattle.std.proofs.Common.{◌≡◌, ◌⊎◌, ℕ, List, Result, Ok, Err, inl, inr, refl, subst, sym, ap, ◌∙◌}
+use Rattle.std.proofs.Common.{◌≡◌, ◌⊎◌, ◌≤◌, ℕ, length, List, Result, Ok, Err, inl, inr, refl, subst, sym, ap, ◌∙◌}
+use Rattle.std.specs.Prelude.{IfOk, MatchResult}
 use Rattle.pe_text.specs.declared.fault.LexFault.{LexFault}
 use Rattle.pe_text.specs.declared.fault.LexFault.TheVariants.{Memory, Bad}
 use Rattle.pe_text.specs.declared.token.Token.{Token}
@@ -7,7 +8,9 @@ use Rattle.pe_text.proofs.Order.{in_order}
 use Rattle.pe_bool_expr.specs.declared.expr.Expr.{Expr}
 use Rattle.pe_bool_expr.specs.declared.fault.ExprFault.{ExprFault}
 use Rattle.pe_bool_expr.specs.declared.fault.ExprFault.TheVariants.{Syntax}
-use Rattle.pe_bool_expr.specs.Reading.{IsOf}
+use Rattle.pe_bool_expr.specs.declared.style.Style.{Style}
+use Rattle.pe_bool_expr.specs.Functions.{different, pins_of}
+use Rattle.pe_bool_expr.specs.Reading.{IsOf, IsRefused}
 use Rattle.pe_bool_expr.specs.Styles.{class_of}
 use Rattle.pe_bool_expr.proofs.Answering.{answered}
 use Rattle.pe_bool_expr.proofs.reading.parse.Goals as goal
@@ -49,3 +52,11 @@ pub returns-in-Err-Bad-clause-syntax : goal.returns-in-Err-Bad-clause-syntax
 returns-in-Err-Bad-clause-syntax c = λ at e.
     let place = sym c.in-Err-Bad.at-is ∙ same_place _ _ at refl e in
     inl (rw (sym c.class.ensures) (c.in-Err-Bad.ensures.bad at (ap (λ f. Err f) (c.in-Err-Bad.field-0-is ∙ ap Bad place))))
+
+few_inputs : (style : Style) (names : List (List ℕ)) (text : List ℕ) (tokens : List Token) (r : Result Expr ExprFault) →
+    MatchResult r (λ e. IsOf style names text tokens e) (λ f. IsRefused style names text tokens f) → IfOk r (λ e. length (different (pins_of e)) ≤ 10)
+few_inputs style names text tokens (Ok e) h = h.few
+few_inputs style names text tokens (Err f) h = tt
+
+pub returns-in-Ok-clause-few : goal.returns-in-Ok-clause-few
+returns-in-Ok-clause-few c = few_inputs c.args.style c.args.names.now c.args.text.now c.as_slice.result.now c.read_tokens-answer.result c.read_tokens-answer.ensures
