@@ -1,5 +1,5 @@
 -- A text is one function, and none where it is refused.
-use Rattle.std.proofs.Common.{◌≡◌, ◌⊎◌, ℕ, ◌<◌, ◌≤◌, Bool, true, List, length, Option, Some, None, Result, Ok, Err, refl, ap, subst, sym, inl, inr, arith, ◌∙◌}
+use Rattle.std.proofs.Common.{◌≡◌, ℕ, true, List, length, Option, Some, None, Result, Ok, Err, refl, ap, sym, arith, ◌∙◌}
 use Rattle.std.specs.Prelude.{MatchResult}
 use Rattle.pe_grammar.specs.Derivation.{Derivation}
 use Rattle.pe_grammar.specs.Test.{passes}

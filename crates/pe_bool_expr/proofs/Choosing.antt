@@ -1,19 +1,18 @@
 -- Choices of bits for corrupt pins, and replacements of corrupt values: each gives what the other gives.
-use Rattle.std.proofs.Common.{◌≡◌, ℕ, zero, suc, ◌+◌, ◌*◌, ◌/◌, ◌%◌, ◌^◌, ◌<◌, ◌≤◌, Bool, true, false, cond, not, ◌&&◌, ◌||◌, eqb, List, [], ◌∷◌, ◌++◌, length, append-nil, length-append, zero-add, get_or, sym, refl, ap, ◌∙◌, subst, inl, inr, ◌⊎◌, ◌↔◌, arith, Option, Some, None, rules}
+use Rattle.std.proofs.Common.{◌≡◌, ℕ, zero, suc, ◌+◌, ◌*◌, ◌/◌, ◌%◌, ◌^◌, ◌<◌, ◌≤◌, Bool, true, false, cond, not, ◌&&◌, ◌||◌, eqb, List, [], ◌∷◌, ◌++◌, length, append-nil, length-append, zero-add, sym, refl, ap, ◌∙◌, inl, inr, arith, Option, Some, None}
 use Rattle.std.specs.Prelude.{slice_get, slice_index_or}
-use Rattle.std.specs.List.{filter, list_any}
+use Rattle.std.specs.List.{filter}
 use Rattle.std.proofs.lemmas.Bool.{eqb-true, false≢true}
 use Rattle.std.proofs.lemmas.List.Elements.{filter-append}
 use Rattle.std.proofs.lemmas.List.Folds.{list_any-append}
 use Rattle.std.proofs.lemmas.List.Sums.{length-filter, count_by-le-length}
-use Rattle.std.proofs.lemmas.Grind.{common_steps}
 use Rattle.std.proofs.Math.Nat.{two-pow-succ}
 use Rattle.pe_bool_expr.specs.Functions.{Formula, constant, pin, complement, both, either, differ, value_by, pins, is_among, with_new, different}
 use Rattle.pe_bool_expr.specs.Choices.{picked, bit_under, value_under, is_corrupt, corrupt_pins}
 use Rattle.pe_base.specs.declared.value.Val.{Val}
 use Rattle.pe_base.specs.declared.value.Val.TheVariants.{Zero, One, Corrupt}
 use Rattle.pe_base.specs.Values.{known_of, IsReplacement, exact_extension, Refines}
-use Rattle.pe_base.proofs.Exact.{exact_extension_law, known_same}
+use Rattle.pe_base.proofs.Exact.{exact_extension_law}
 
 -- adding two lists one after the other
 pub with_new-append : (ps xs ys : List ℕ) → with_new ps (xs ++ ys) ≡ with_new (with_new ps xs) ys

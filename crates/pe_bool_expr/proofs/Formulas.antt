@@ -1,5 +1,5 @@
 -- What formula a tree is, by its variant.
-use Rattle.std.proofs.Common.{◌≡◌, ◌⊎◌, ℕ, Bool, List, ◌++◌, inl, inr, sym, ap, ◌∙◌}
+use Rattle.std.proofs.Common.{◌≡◌, ◌⊎◌, ℕ, Bool, ◌++◌, inl, inr, sym, ap, ◌∙◌}
 use Rattle.pe_bool_expr.specs.declared.expr.Expr.{Expr, fold-Expr, fold-roll-Expr}
 use Rattle.pe_bool_expr.specs.declared.expr.Expr.TheVariants.{Const, Pin, Not, And, Or, Xor, rolls-Const, rolls-Pin, rolls-Not, rolls-And, rolls-Or, rolls-Xor}
 use Rattle.pe_bool_expr.specs.declared.expr.Expr.TheOpen as layer

@@ -1,5 +1,5 @@
 -- Names among names, and the list of pins that is made token by token.
-use Rattle.std.proofs.Common.{◌≡◌, ℕ, suc, ◌+◌, ◌<◌, ◌≤◌, Bool, true, false, cond, ◌||◌, ◌≢◌, ltb, List, [], ◌∷◌, ◌++◌, length, get_or, drop, map, append_assoc, Option, Some, None, arith, ap, refl, subst, sym, ◌∙◌}
+use Rattle.std.proofs.Common.{◌≡◌, ℕ, suc, ◌+◌, ◌<◌, ◌≤◌, Bool, true, false, cond, ◌||◌, ◌≢◌, ltb, List, [], ◌∷◌, ◌++◌, length, get_or, drop, append_assoc, Option, Some, arith, ap, refl, sym, ◌∙◌}
 use Rattle.std.specs.Str.{bytes_eq}
 use Rattle.std.proofs.lemmas.Bool.{lt-ltb}
 use Rattle.pe_base.specs.Names.{has_name, place_of}

@@ -1,5 +1,5 @@
 -- The values of a boolean function, and the pins that it names.
-use Rattle.std.specs.Prelude.{ℕ, Bool, true, false, cond, not, ◌&&◌, ◌||◌, ◌==◌, List, [], ◌∷◌, ◌++◌, slice_index_or}
+use Rattle.std.specs.Prelude.{ℕ, Bool, false, cond, not, ◌&&◌, ◌||◌, ◌==◌, List, [], ◌∷◌, ◌++◌, slice_index_or}
 use Rattle.std.specs.List.{list_any}
 use Rattle.pe_bool_expr.specs.declared.expr.Expr.{Expr, Expr-F, fold-Expr}
 use Rattle.pe_bool_expr.specs.declared.expr.Expr.TheOpen as layer

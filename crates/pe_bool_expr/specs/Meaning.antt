@@ -1,5 +1,5 @@
 -- The tree that a derivation is.
-use Rattle.std.specs.Prelude.{ℕ, zero, suc, ◌+◌, ◌/◌, ◌%◌, Bool, true, false, cond, ltb, List, [], ◌∷◌, length, take, drop, slice_index}
+use Rattle.std.specs.Prelude.{ℕ, zero, suc, ◌/◌, ◌%◌, true, false, cond, ltb, List, [], ◌∷◌, length, take, drop, slice_index}
 use Rattle.pe_grammar.specs.Derivation.{Derivation, leaf, pair, left, right, more}
 use Rattle.pe_bool_expr.specs.declared.expr.Expr.{Expr}
 use Rattle.pe_bool_expr.specs.declared.expr.Expr.TheVariants as tree

@@ -1,4 +1,4 @@
-use Rattle.std.proofs.Common.{◌≡◌, refl, inl, inr, sym, ◌∙◌}
+use Rattle.std.proofs.Common.{refl, inr, ◌∙◌}
 use Rattle.pe_bool_expr.proofs.NamesLemmas.{unknown_at_end, known_before}
 use Rattle.pe_bool_expr.proofs.names.pin_of.Goals as goal
 

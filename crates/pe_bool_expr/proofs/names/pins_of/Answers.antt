@@ -1,4 +1,4 @@
-use Rattle.std.proofs.Common.{◌≡◌, ◌++◌, ◌⊎◌, true, false, length, drop, get_or, append-nil, arith, refl, ap, inl, inr, sym, ◌∙◌}
+use Rattle.std.proofs.Common.{◌++◌, true, false, length, get_or, append-nil, arith, refl, ap, inl, inr, sym, ◌∙◌}
 use Rattle.std.proofs.lemmas.List.{drop_all}
 use Rattle.pe_bool_expr.specs.Names.{first_unknown, pins_for, is_known, pin_of}
 use Rattle.pe_bool_expr.proofs.Pieces.{no_piece, next_at}

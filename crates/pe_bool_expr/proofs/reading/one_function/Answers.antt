@@ -1,4 +1,4 @@
-use Rattle.std.proofs.Common.{◌≡◌, List, ℕ, refl, subst, sym}
+use Rattle.std.proofs.Common.{List, refl, subst}
 use Rattle.pe_grammar.specs.Written.{rule}
 use Rattle.pe_grammar.proofs.Same.{from_table, to_table}
 use Rattle.pe_text.specs.declared.token.Token.{Token}

@@ -3,7 +3,6 @@ use Rattle.std.specs.Prelude.{IfOk, MatchResult}
 use Rattle.pe_text.specs.declared.fault.LexFault.{LexFault}
 use Rattle.pe_text.specs.declared.fault.LexFault.TheVariants.{Memory, Bad}
 use Rattle.pe_text.specs.declared.token.Token.{Token}
-use Rattle.pe_text.specs.Cut.{IsCut, IsBadAt}
 use Rattle.pe_text.proofs.Order.{in_order}
 use Rattle.pe_bool_expr.specs.declared.expr.Expr.{Expr}
 use Rattle.pe_bool_expr.specs.declared.fault.ExprFault.{ExprFault}
@@ -11,7 +10,6 @@ use Rattle.pe_bool_expr.specs.declared.fault.ExprFault.TheVariants.{Syntax}
 use Rattle.pe_bool_expr.specs.declared.style.Style.{Style}
 use Rattle.pe_bool_expr.specs.Functions.{different, pins_of}
 use Rattle.pe_bool_expr.specs.Reading.{IsOf, IsRefused}
-use Rattle.pe_bool_expr.specs.Styles.{class_of}
 use Rattle.pe_bool_expr.proofs.Answering.{answered}
 use Rattle.pe_bool_expr.proofs.reading.parse.Goals as goal
 

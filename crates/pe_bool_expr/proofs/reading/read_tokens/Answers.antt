@@ -1,4 +1,4 @@
-use Rattle.std.proofs.Common.{◌≡◌, ap, sym, ◌∙◌}
+use Rattle.std.proofs.Common.{ap, sym, ◌∙◌}
 use Rattle.pe_bool_expr.specs.Nesting.{first_deep}
 use Rattle.pe_bool_expr.proofs.reading.read_tokens.Goals as goal
 

@@ -1,5 +1,3 @@
-use Rattle.std.proofs.Common.{◌≡◌}
-use Rattle.pe_bool_expr.specs.Styles.{table_of}
 use Rattle.pe_bool_expr.proofs.reading.read_tree.Goals as goal
 
 pub returns-in-Liberty-clause-found : goal.returns-in-Liberty-clause-found

@@ -1,7 +1,7 @@
-use Rattle.std.proofs.Common.{◌≡◌, ◌++◌, ◌+◌, ◌<◌, ◌^◌, [], length, drop, get_or, append-nil, arith, refl, ap, sym, ◌∙◌}
+use Rattle.std.proofs.Common.{◌++◌, length, get_or, append-nil, arith, refl, ap, sym, ◌∙◌}
 use Rattle.std.proofs.lemmas.List.{drop_all}
 use Rattle.pe_bool_expr.specs.Terminals.{terminals_from, terminal_of}
-use Rattle.pe_bool_expr.proofs.Pieces.{Left, no_piece, next_at, terminals_step}
+use Rattle.pe_bool_expr.proofs.Pieces.{no_piece, next_at, terminals_step}
 use Rattle.pe_bool_expr.proofs.terminal.terminals.Goals as goal
 
 pub loop-piece-init : goal.loop-piece-init
