@@ -1,0 +1,10 @@
+pub mod Functions
+pub mod Choices
+pub mod LibertyGrammar
+pub mod UpfGrammar
+pub mod Styles
+pub mod Meaning
+pub mod Terminals
+pub mod Names
+pub mod Nesting
+pub mod Reading
