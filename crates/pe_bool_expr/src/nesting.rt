@@ -14,7 +14,7 @@ const LIMIT: u32 = 64;
 
 /// How many are open, and how many will be where the operand that is being read ends.
 #[derive(Clone, Copy)]
-struct Open {
+struct Counts {
     now: u32,
     behind: u32,
 }
@@ -32,33 +32,33 @@ fn close(outer: &mut Items<u32>) -> u32
 }
 
 /// Goes over a token that does this.
-fn count(role: Role, open: Open, outer: &mut Items<u32>) -> Result<Open, AllocError>
-    requires { open.now < 1000 }
-    ensures now { IfOk result (λ r. (opened_with role (record { now = open.now; behind = open.behind; outer = reverse outer.old })).now ≡ r.now) }
-    ensures behind { IfOk result (λ r. (opened_with role (record { now = open.now; behind = open.behind; outer = reverse outer.old })).behind ≡ r.behind) }
-    ensures outer { OnOk result ((opened_with role (record { now = open.now; behind = open.behind; outer = reverse outer.old })).outer ≡ reverse outer.new) }
+fn count_in(role: Role, counts: Counts, outer: &mut Items<u32>) -> Result<Counts, AllocError>
+    requires { counts.now < 1000 }
+    ensures now { IfOk result (λ r. (opened_with role (record { now = counts.now; behind = counts.behind; outer = reverse outer.old })).now ≡ r.now) }
+    ensures behind { IfOk result (λ r. (opened_with role (record { now = counts.now; behind = counts.behind; outer = reverse outer.old })).behind ≡ r.behind) }
+    ensures outer { OnOk result ((opened_with role (record { now = counts.now; behind = counts.behind; outer = reverse outer.old })).outer ≡ reverse outer.new) }
 {
-    let Open { now, behind } = open;
+    let Counts { now, behind } = counts;
     match role {
-        Role::Leading => Ok(Open {
+        Role::Leading => Ok(Counts {
             now: now + 1,
             behind,
         }),
         Role::Opening => {
             outer.push(behind)?;
-            Ok(Open {
+            Ok(Counts {
                 now: now + 1,
                 behind: now + 1,
             })
         }
         Role::Closing => {
             let behind = close(outer);
-            Ok(Open {
+            Ok(Counts {
                 now: behind,
                 behind,
             })
         }
-        Role::Operand | Role::Trailing | Role::Joining => Ok(Open {
+        Role::Operand | Role::Trailing | Role::Joining => Ok(Counts {
             now: behind,
             behind,
         }),
@@ -73,11 +73,11 @@ pub(crate) fn first_deep(
 ) -> Result<Option<Token>, AllocError>
     ensures { IfOk result (λ deep. deep ≡ deep_in style tokens.now) }
 {
-    let mut open = Open { now: 0, behind: 0 };
+    let mut counts = Counts { now: 0, behind: 0 };
     let mut outer = Items::new(alloc);
     for token in tokens {
-        open = count(role_in(style, token.kind), open, &mut outer)?;
-        if LIMIT < open.now {
+        counts = count_in(role_in(style, token.kind), counts, &mut outer)?;
+        if LIMIT < counts.now {
             return Ok(Some(*token));
         }
     }
