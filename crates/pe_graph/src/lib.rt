@@ -3,7 +3,9 @@
 
 mod graph;
 mod literal;
+mod marks;
 mod table;
 
 pub use graph::{Graph, Node};
 pub use literal::Lit;
+pub use marks::Marks;
