@@ -1,4 +1,7 @@
 pub mod Values
 pub mod Operators
+pub mod Words
+pub mod Gates
+pub mod Adder
 pub mod Walk
 pub mod Names
