@@ -3,5 +3,6 @@ pub mod Operators
 pub mod Words
 pub mod Gates
 pub mod Adder
+pub mod Registers
 pub mod Walk
 pub mod Names
