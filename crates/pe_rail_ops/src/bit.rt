@@ -5,6 +5,7 @@ ghost use Rattle.pe_base.specs.declared.value.Val.TheVariants.{Corrupt};
 ghost use Rattle.pe_base.specs.Values.{known_of, pick_of};
 ghost use Rattle.pe_base.specs.Operators.{not_of, and_of, or_of, xor_of, xnor_of};
 ghost use Rattle.pe_base.specs.Registers.{kept_of};
+ghost use Rattle.pe_base.specs.Words.{is_one};
 ghost use Rattle.pe_graph.specs.declared.graph.Node.{Node};
 ghost use Rattle.pe_graph.specs.Nodes.{IsIn, IsGraph, value_in, Gives, Grows};
 ghost use Rattle.pe_rail_ops.specs.Rails.{IsRail, GivesRail, rail_in, side_of};
@@ -25,8 +26,8 @@ pub fn constant(x: Val) -> Rail
     ensures value { (nodes : List Node) (v : ℕ → Bool) → IsGraph nodes → rail_in v nodes result ≡ x }
 {
     Rail {
-        one: Lit::truth(x == Val::One),
-        zero: Lit::truth(x == Val::Zero),
+        one: Lit::truth(is_one(x)),
+        zero: Lit::truth(is_one(pe_base::not(x))),
     }
 }
 
@@ -42,9 +43,9 @@ pub fn known(bit: Lit) -> Rail
 }
 
 /// `~a`
-pub fn not(a: Rail) -> Rail
-    ensures is_rail { (nodes : List Node) → IsRail nodes a → IsRail nodes result }
-    ensures value { (nodes : List Node) (v : ℕ → Bool) → IsRail nodes a → rail_in v nodes result ≡ not_of (rail_in v nodes a) }
+pub fn not(a: &Rail) -> Rail
+    ensures is_rail { (nodes : List Node) → IsRail nodes a.now → IsRail nodes result }
+    ensures value { (nodes : List Node) (v : ℕ → Bool) → IsRail nodes a.now → rail_in v nodes result ≡ not_of (rail_in v nodes a.now) }
 {
     Rail {
         one: a.zero,
@@ -53,10 +54,10 @@ pub fn not(a: Rail) -> Rail
 }
 
 /// `a & b`
-pub fn and(graph: &mut Graph, a: Rail, b: Rail) -> Result<Rail, Want>
-    requires a_in { IsRail graph.old a }
-    requires b_in { IsRail graph.old b }
-    ensures gives { IfOk result (GivesRail graph.old graph.new (λ v. and_of (rail_in v graph.old a) (rail_in v graph.old b))) }
+pub fn and(graph: &mut Graph, a: &Rail, b: &Rail) -> Result<Rail, Want>
+    requires a_in { IsRail graph.old a.now }
+    requires b_in { IsRail graph.old b.now }
+    ensures gives { IfOk result (GivesRail graph.old graph.new (λ v. and_of (rail_in v graph.old a.now) (rail_in v graph.old b.now))) }
     ensures want { OnErr result (Grows graph.old graph.new) }
 {
     let one = graph.and(a.one, b.one)?;
@@ -65,10 +66,10 @@ pub fn and(graph: &mut Graph, a: Rail, b: Rail) -> Result<Rail, Want>
 }
 
 /// `a | b`
-pub fn or(graph: &mut Graph, a: Rail, b: Rail) -> Result<Rail, Want>
-    requires a_in { IsRail graph.old a }
-    requires b_in { IsRail graph.old b }
-    ensures gives { IfOk result (GivesRail graph.old graph.new (λ v. or_of (rail_in v graph.old a) (rail_in v graph.old b))) }
+pub fn or(graph: &mut Graph, a: &Rail, b: &Rail) -> Result<Rail, Want>
+    requires a_in { IsRail graph.old a.now }
+    requires b_in { IsRail graph.old b.now }
+    ensures gives { IfOk result (GivesRail graph.old graph.new (λ v. or_of (rail_in v graph.old a.now) (rail_in v graph.old b.now))) }
     ensures want { OnErr result (Grows graph.old graph.new) }
 {
     let one = graph.or(a.one, b.one)?;
@@ -77,33 +78,34 @@ pub fn or(graph: &mut Graph, a: Rail, b: Rail) -> Result<Rail, Want>
 }
 
 /// `a ^ b`
-pub fn xor(graph: &mut Graph, a: Rail, b: Rail) -> Result<Rail, Want>
-    requires a_in { IsRail graph.old a }
-    requires b_in { IsRail graph.old b }
-    ensures gives { IfOk result (GivesRail graph.old graph.new (λ v. xor_of (rail_in v graph.old a) (rail_in v graph.old b))) }
+pub fn xor(graph: &mut Graph, a: &Rail, b: &Rail) -> Result<Rail, Want>
+    requires a_in { IsRail graph.old a.now }
+    requires b_in { IsRail graph.old b.now }
+    ensures gives { IfOk result (GivesRail graph.old graph.new (λ v. xor_of (rail_in v graph.old a.now) (rail_in v graph.old b.now))) }
     ensures want { OnErr result (Grows graph.old graph.new) }
 {
-    let r = pick(graph, a, b, not(b))?;
+    let flipped = not(b);
+    let r = pick(graph, a, b, &flipped)?;
     Ok(r)
 }
 
 /// `a ~^ b`
-pub fn xnor(graph: &mut Graph, a: Rail, b: Rail) -> Result<Rail, Want>
-    requires a_in { IsRail graph.old a }
-    requires b_in { IsRail graph.old b }
-    ensures gives { IfOk result (GivesRail graph.old graph.new (λ v. xnor_of (rail_in v graph.old a) (rail_in v graph.old b))) }
+pub fn xnor(graph: &mut Graph, a: &Rail, b: &Rail) -> Result<Rail, Want>
+    requires a_in { IsRail graph.old a.now }
+    requires b_in { IsRail graph.old b.now }
+    ensures gives { IfOk result (GivesRail graph.old graph.new (λ v. xnor_of (rail_in v graph.old a.now) (rail_in v graph.old b.now))) }
     ensures want { OnErr result (Grows graph.old graph.new) }
 {
     let r = xor(graph, a, b)?;
-    Ok(not(r))
+    Ok(not(&r))
 }
 
 /// `x` where the control is 0, `y` where it is 1, their merge where it is corrupt.
-pub fn pick(graph: &mut Graph, control: Rail, x: Rail, y: Rail) -> Result<Rail, Want>
-    requires control_in { IsRail graph.old control }
-    requires x_in { IsRail graph.old x }
-    requires y_in { IsRail graph.old y }
-    ensures gives { IfOk result (GivesRail graph.old graph.new (λ v. pick_of (rail_in v graph.old control) (rail_in v graph.old x) (rail_in v graph.old y))) }
+pub fn pick(graph: &mut Graph, control: &Rail, x: &Rail, y: &Rail) -> Result<Rail, Want>
+    requires control_in { IsRail graph.old control.now }
+    requires x_in { IsRail graph.old x.now }
+    requires y_in { IsRail graph.old y.now }
+    ensures gives { IfOk result (GivesRail graph.old graph.new (λ v. pick_of (rail_in v graph.old control.now) (rail_in v graph.old x.now) (rail_in v graph.old y.now))) }
     ensures want { OnErr result (Grows graph.old graph.new) }
 {
     let one = side(graph, control, x.one, y.one)?;
@@ -112,10 +114,10 @@ pub fn pick(graph: &mut Graph, control: Rail, x: Rail, y: Rail) -> Result<Rail, 
 }
 
 /// The value where the literal is 1, and corrupt where it is 0.
-pub fn kept(graph: &mut Graph, on: Lit, x: Rail) -> Result<Rail, Want>
+pub fn kept(graph: &mut Graph, on: Lit, x: &Rail) -> Result<Rail, Want>
     requires on_in { IsIn graph.old on }
-    requires x_in { IsRail graph.old x }
-    ensures gives { IfOk result (GivesRail graph.old graph.new (λ v. kept_of (value_in v graph.old on) (rail_in v graph.old x))) }
+    requires x_in { IsRail graph.old x.now }
+    ensures gives { IfOk result (GivesRail graph.old graph.new (λ v. kept_of (value_in v graph.old on) (rail_in v graph.old x.now))) }
     ensures want { OnErr result (Grows graph.old graph.new) }
 {
     let one = graph.and(on, x.one)?;
@@ -124,15 +126,21 @@ pub fn kept(graph: &mut Graph, on: Lit, x: Rail) -> Result<Rail, Want>
 }
 
 // One side of what a control picks: that of `x` unless the control is 1, and that of `y` unless it is 0.
-fn side(graph: &mut Graph, control: Rail, x: Lit, y: Lit) -> Result<Lit, Want>
-    requires control_in { IsRail graph.old control }
+fn side(graph: &mut Graph, control: &Rail, x: Lit, y: Lit) -> Result<Lit, Want>
+    requires control_in { IsRail graph.old control.now }
     requires x_in { IsIn graph.old x }
     requires y_in { IsIn graph.old y }
-    ensures gives { IfOk result (Gives graph.old graph.new (λ v. side_of (value_in v graph.old control.one) (value_in v graph.old control.zero) (value_in v graph.old x) (value_in v graph.old y))) }
+    ensures gives { IfOk result (Gives graph.old graph.new (λ v. side_of (value_in v graph.old control.now.one) (value_in v graph.old control.now.zero) (value_in v graph.old x) (value_in v graph.old y))) }
     ensures want { OnErr result (Grows graph.old graph.new) }
 {
     let first = graph.or(x, control.one)?;
     let second = graph.or(y, control.zero)?;
     let both = graph.and(first, second)?;
     Ok(both)
+}
+
+fn is_one(x: Val) -> bool
+    ensures { result ≡ is_one x }
+{
+    x == Val::One
 }
