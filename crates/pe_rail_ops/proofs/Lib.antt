@@ -1,2 +1,4 @@
 pub mod Tables
 pub mod Rails
+pub mod Loops
+pub mod AdderLemmas

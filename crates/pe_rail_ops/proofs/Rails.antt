@@ -117,7 +117,6 @@ gives_as g0 g1 x y r e p = record { grows = p.grows; is_rail = p.is_rail; value 
 pub gives_on : (g0 g1 g2 : List Node) (x y : (ℕ → Bool) → Val) (r : Rail) → Grows g0 g1 → ((v : ℕ → Bool) → x v ≡ y v) → GivesRail g1 g2 x r → GivesRail g0 g2 y r
 gives_on g0 g1 g2 x y r g e p = record { grows = grows_on g0 g1 g2 g p.grows; is_rail = p.is_rail; value = λ v. p.value v ∙ e v }
 
-
 -- the literals of a constant
 module _ (nodes : List Node) (graph : IsGraph nodes) (x : Val) where
   pub constant_value : (v : ℕ → Bool) → rail_in v nodes (record { one = truth_of (is_one x); zero = truth_of (is_one (not_of x)) }) ≡ x
@@ -147,3 +146,7 @@ rails_push g0 g1 g2 x y rails more r is p q = rw is (record {
       let before = rails_same g1 g2 rails q.grows p.are_rails v ∙ p.values v in
       map-append (rail_in v g2) rails (r ∷ []) ∙ rw (before, q.value v) refl;
 })
+
+-- the same rails under equal values, after growth before them
+pub rails_on : (g0 g1 g2 : List Node) (x y : (ℕ → Bool) → List Val) (rails : List Rail) → Grows g0 g1 → ((v : ℕ → Bool) → x v ≡ y v) → GivesRails g1 g2 x rails → GivesRails g0 g2 y rails
+rails_on g0 g1 g2 x y rails g e p = record { grows = grows_on g0 g1 g2 g p.grows; are_rails = p.are_rails; values = λ v. p.values v ∙ e v }

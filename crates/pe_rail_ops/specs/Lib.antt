@@ -1,1 +1,3 @@
 pub mod Rails
+pub mod Gates
+pub mod Adders

@@ -4,6 +4,15 @@
 //! graph has only grown.
 #![tactic(auto)]
 
+mod adder;
 pub mod bit;
+mod bits;
+mod gate;
+mod numbers;
 
 pub use bit::Rail;
+pub use bits::{
+    and, choose, equal, logic_and, logic_not, logic_or, not, not_equal, or, reduce_and,
+    reduce_nand, reduce_nor, reduce_or, reduce_xnor, reduce_xor, xnor, xor,
+};
+pub use numbers::{add, greater, greater_equal, less, less_equal, subtract};
