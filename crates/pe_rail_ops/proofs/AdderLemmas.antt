@@ -72,24 +72,30 @@ less_gives g0 g1 g2 g3 g4 x y less above still below r hx hy hl p q s t =
           cc;
     }
 
-pub adder_gives : (g0 g1 g2 g3 g4 g5 : List Node) (x y c half sum both through carry : ℕ) → IsIn g0 x → IsIn g0 y → IsIn g0 c → Gives g0 g1 (λ v. sum_bit (value_in v g0 x) (value_in v g0 y) false) half → Gives g1 g2 (λ v. sum_bit (value_in v g1 half) (value_in v g1 c) false) sum → Gives g2 g3 (λ v. value_in v g2 x && value_in v g2 y) both → Gives g3 g4 (λ v. value_in v g3 half && value_in v g3 c) through → Gives g4 g5 (λ v. value_in v g4 both || value_in v g4 through) carry → GivesSum g0 g5 x y c (record { sum = sum; carry = carry })
-adder_gives g0 g1 g2 g3 g4 g5 x y c half sum both through carry hx hy hc p q r s t =
+pub carried_gives : (g0 g1 g2 g3 : List Node) (x y half c both through r : ℕ) → IsIn g0 half → IsIn g0 c → Gives g0 g1 (λ v. value_in v g0 x && value_in v g0 y) both → Gives g1 g2 (λ v. value_in v g1 half && value_in v g1 c) through → Gives g2 g3 (λ v. value_in v g2 both || value_in v g2 through) r → Gives g0 g3 (λ v. (value_in v g0 x && value_in v g0 y) || (value_in v g0 half && value_in v g0 c)) r
+carried_gives g0 g1 g2 g3 x y half c both through r hh hc p q t = record {
+  grows = grows_on g0 g2 g3 (grows_on g0 g1 g2 p.grows q.grows) t.grows;
+  inside = t.inside;
+  value = λ v.
+      let a = p.value v in let b = q.value v in let d = t.value v in
+      let eb = q.grows.same v both p.inside in let eh = p.grows.same v half hh in let ec = p.grows.same v c hc in
+      cc;
+}
+
+pub adder_gives : (g0 g1 g2 g3 : List Node) (x y c half sum carry : ℕ) → IsIn g0 x → IsIn g0 y → IsIn g0 c → Gives g0 g1 (λ v. sum_bit (value_in v g0 x) (value_in v g0 y) false) half → Gives g1 g2 (λ v. sum_bit (value_in v g1 half) (value_in v g1 c) false) sum → Gives g2 g3 (λ v. (value_in v g2 x && value_in v g2 y) || (value_in v g2 half && value_in v g2 c)) carry → GivesSum g0 g3 x y c (record { sum = sum; carry = carry })
+adder_gives g0 g1 g2 g3 x y c half sum carry hx hy hc p q r =
     let to2 = grows_on g0 g1 g2 p.grows q.grows in
-    let to3 = grows_on g0 g2 g3 to2 r.grows in
-    let from1 = grows_on g1 g2 g3 q.grows r.grows in
-    let from2 = grows_on g2 g4 g5 (grows_on g2 g3 g4 r.grows s.grows) t.grows in
     record {
-      grows = grows_on g0 g2 g5 to2 from2;
-      sum_in = from2.keeps sum q.inside;
-      carry_in = t.inside;
+      grows = grows_on g0 g2 g3 to2 r.grows;
+      sum_in = r.grows.keeps sum q.inside;
+      carry_in = r.inside;
       sum = λ v.
-          let keep = from2.same v sum q.inside in let a = p.value v in let b = q.value v in let ec = p.grows.same v c hc in
+          let keep = r.grows.same v sum q.inside in let a = p.value v in let b = q.value v in let ec = p.grows.same v c hc in
           let table = sum_table (value_in v g0 x) (value_in v g0 y) (value_in v g0 c) in
           cc;
       carry = λ v.
-          let a = p.value v in let b = r.value v in let d = s.value v in let e = t.value v in
-          let ex = to2.same v x hx in let ey = to2.same v y hy in let ec = to3.same v c hc in
-          let eh = from1.same v half p.inside in let eb = s.grows.same v both r.inside in
+          let a = p.value v in let b = r.value v in
+          let ex = to2.same v x hx in let ey = to2.same v y hy in let ec = to2.same v c hc in let eh = q.grows.same v half p.inside in
           let table = carry_table (value_in v g0 x) (value_in v g0 y) (value_in v g0 c) in
           cc;
     }

@@ -2,3 +2,5 @@ pub mod Tables
 pub mod Rails
 pub mod Loops
 pub mod AdderLemmas
+pub mod Arithmetic
+pub mod Comparison

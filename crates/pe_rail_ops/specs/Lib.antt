@@ -1,3 +1,4 @@
 pub mod Rails
 pub mod Gates
 pub mod Adders
+pub mod Stages

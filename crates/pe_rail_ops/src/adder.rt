@@ -1,6 +1,6 @@
 //! Addition and comparison of two bits on literals.
 
-ghost use Rattle.std.specs.Prelude.{◌≡◌, Bool, IfOk, OnErr};
+ghost use Rattle.std.specs.Prelude.{◌≡◌, ◌&&◌, ◌||◌, Bool, IfOk, OnErr};
 ghost use Rattle.pe_base.specs.Adder.{sum_bit, less_bit};
 ghost use Rattle.pe_graph.specs.Nodes.{IsIn, value_in, Gives, Grows};
 ghost use Rattle.std.specs.Prelude.{false};
@@ -26,10 +26,23 @@ pub fn add_bits(graph: &mut Graph, x: Lit, y: Lit, carry: Lit) -> Result<Added, 
 {
     let half = differ(graph, x, y)?;
     let sum = differ(graph, half, carry)?;
+    let carry = carried(graph, x, y, half, carry)?;
+    Ok(Added { sum, carry })
+}
+
+// Whether both bits are 1, or one of them and the carry.
+fn carried(graph: &mut Graph, x: Lit, y: Lit, half: Lit, carry: Lit) -> Result<Lit, Want>
+    requires x_in { IsIn graph.old x }
+    requires y_in { IsIn graph.old y }
+    requires half_in { IsIn graph.old half }
+    requires carry_in { IsIn graph.old carry }
+    ensures gives { IfOk result (Gives graph.old graph.new (λ v. (value_in v graph.old x && value_in v graph.old y) || (value_in v graph.old half && value_in v graph.old carry))) }
+    ensures want { OnErr result (Grows graph.old graph.new) }
+{
     let both = graph.and(x, y)?;
     let through = graph.and(half, carry)?;
-    let carry = graph.or(both, through)?;
-    Ok(Added { sum, carry })
+    let either = graph.or(both, through)?;
+    Ok(either)
 }
 
 /// Whether the first bit is below the second, or they are equal and `less` says so.

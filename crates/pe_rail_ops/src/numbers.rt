@@ -139,7 +139,8 @@ pub(crate) fn all_known(graph: &mut Graph, a: &[Rail]) -> Result<Lit, Want>
     graph.graph_law();
     let mut all = Lit::truth(true);
     for i in 0..a.len() {
-        let known = graph.or(a[i].one, a[i].zero)?;
+        let x = a[i];
+        let known = graph.or(x.one, x.zero)?;
         let both = graph.and(all, known)?;
         all = both;
     }
@@ -196,8 +197,8 @@ fn sums(
     let mut carry = Lit::truth(subtract);
     let mut sums = Items::new(alloc);
     for i in 0..a.len() {
-        let y = flip(subtract, b[i].one);
-        let added = add_bits(graph, a[i].one, y, carry)?;
+        let (x, y) = (a[i], b[i]);
+        let added = add_bits(graph, x.one, flip(subtract, y.one), carry)?;
         sums.push(bit::known(added.sum))?;
         carry = added.carry;
     }
@@ -244,7 +245,8 @@ fn is_less(graph: &mut Graph, a: &[Rail], b: &[Rail]) -> Result<Lit, Want>
     graph.graph_law();
     let mut less = Lit::truth(false);
     for i in 0..a.len() {
-        let below = less_bits(graph, a[i].one, b[i].one, less)?;
+        let (x, y) = (a[i], b[i]);
+        let below = less_bits(graph, x.one, y.one, less)?;
         less = below;
     }
     Ok(less)
