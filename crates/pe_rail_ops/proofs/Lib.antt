@@ -4,3 +4,4 @@ pub mod Loops
 pub mod AdderLemmas
 pub mod Arithmetic
 pub mod Comparison
+pub mod RegisterGives

@@ -1,4 +1,4 @@
 pub mod Rails
 pub mod Gates
 pub mod Adders
-pub mod Stages
+pub mod Registers

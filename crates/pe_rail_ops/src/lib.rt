@@ -9,6 +9,7 @@ pub mod bit;
 mod bits;
 mod gate;
 mod numbers;
+mod register;
 
 pub use bit::Rail;
 pub use bits::{
@@ -16,3 +17,4 @@ pub use bits::{
     reduce_nand, reduce_nor, reduce_or, reduce_xnor, reduce_xor, xnor, xor,
 };
 pub use numbers::{add, greater, greater_equal, less, less_equal, subtract};
+pub use register::{RegisterRails, isolated, next_main, next_shadow, visible};
