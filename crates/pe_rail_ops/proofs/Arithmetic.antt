@@ -27,9 +27,9 @@ use Rattle.pe_rail_ops.proofs.Loops.{rail_at, take-rails_in, take-rails_in_all, 
 pub kept_step : (g0 g1 g2 : List Node) (on : ℕ) (a bits more : List Rail) (i : ℕ) (x r : Rail) → IsIn g0 on → All (IsRail g0) a → i < length a → x ≡ get_or a i x → more ≡ bits ++ r ∷ [] → GivesRails g0 g1 (λ v. map (kept_of (value_in v g0 on)) (take i (rails_in v g0 a))) bits → GivesRail g1 g2 (λ v. kept_of (value_in v g1 on) (rail_in v g1 x)) r → GivesRails g0 g2 (λ v. map (kept_of (value_in v g0 on)) (take (i + 1) (rails_in v g0 a))) more
 kept_step g0 g1 g2 on a bits more i x r ho ha lt is push before step = rails_as g0 g2 _ _ more
     (λ v.
-      let p = before.grows.same v on ho in
-      let q = rail_same g0 g1 x before.grows (rail_at g0 a i x ha lt is) v in
-      sym (rw (take-rails_in v g0 a i x lt is, map-append (kept_of (value_in v g0 on)) (take i (rails_in v g0 a)) (rail_in v g0 x ∷ []), p, q) refl))
+    let p = before.grows.same v on ho in
+    let q = rail_same g0 g1 x before.grows (rail_at g0 a i x ha lt is) v in
+    sym (rw (take-rails_in v g0 a i x lt is, map-append (kept_of (value_in v g0 on)) (take i (rails_in v g0 a)) (rail_in v g0 x ∷ []), p, q) refl))
     (rails_push g0 g1 g2 _ (λ v. kept_of (value_in v g1 on) (rail_in v g1 x)) bits more r push before step)
 
 pub kept_all : (old new : List Node) (on : ℕ) (a bits : List Rail) (i : ℕ) → length a ≤ i → GivesRails old new (λ v. map (kept_of (value_in v old on)) (take i (rails_in v old a))) bits → GivesRails old new (λ v. map (kept_of (value_in v old on)) (rails_in v old a)) bits
@@ -71,10 +71,10 @@ pub known_all : (old new : List Node) (a : List Rail) (i r : ℕ) → length a �
 known_all old new a i r past h = record { grows = h.grows; inside = h.inside; value = λ v. h.value v ∙ ap all_known (take-rails_in_all v old a i past) }
 
 -- one bit more of a number
-one_bits : (v : ℕ → Bool) (g : List Node) (a : List Rail) (i : ℕ) (x : Rail) → i < length a → x ≡ get_or a i x → map is_one (take (i + 1) (rails_in v g a)) ≡ map is_one (take i (rails_in v g a)) ++ value_in v g x.one ∷ []
+pub one_bits : (v : ℕ → Bool) (g : List Node) (a : List Rail) (i : ℕ) (x : Rail) → i < length a → x ≡ get_or a i x → map is_one (take (i + 1) (rails_in v g a)) ≡ map is_one (take i (rails_in v g a)) ++ value_in v g x.one ∷ []
 one_bits v g a i x lt is = rw (take-rails_in v g a i x lt is) (map-append is_one (take i (rails_in v g a)) (rail_in v g x ∷ []) ∙ ap (λ b. map is_one (take i (rails_in v g a)) ++ b ∷ []) (one_side (value_in v g x.one) (value_in v g x.zero)))
 
-length-bits : (v : ℕ → Bool) (g : List Node) (a : List Rail) (i : ℕ) → i < length a → length (map is_one (take i (rails_in v g a))) ≡ i
+pub length-bits : (v : ℕ → Bool) (g : List Node) (a : List Rail) (i : ℕ) → i < length a → length (map is_one (take i (rails_in v g a))) ≡ i
 length-bits v g a i lt = length-map (take i (rails_in v g a)) is_one ∙ length-take-le i (rails_in v g a) (let e = length-rails_in v g a in omega arith)
 
 pub less_step : (g0 g1 g2 : List Node) (a b : List Rail) (i less r : ℕ) (x y : Rail) → length a ≡ length b → All (IsRail g0) a → All (IsRail g0) b → i < length a → x ≡ get_or a i x → y ≡ get_or b i y → Gives g0 g1 (λ v. nat_lt (value_number (take i (rails_in v g0 a))) (value_number (take i (rails_in v g0 b)))) less → Gives g1 g2 (λ v. less_bit (value_in v g1 x.one) (value_in v g1 y.one) (value_in v g1 less)) r → Gives g0 g2 (λ v. nat_lt (value_number (take (i + 1) (rails_in v g0 a))) (value_number (take (i + 1) (rails_in v g0 b)))) r
@@ -139,7 +139,7 @@ sums_step g0 g1 g2 subtract a b sums more i carry flip x y r added e ha hb lt is
           let bits = ap (map is_one) all ∙ map-append is_one (rails_in v g1 sums) (rail_in v g2 r ∷ []) in
           rw (ones, flips, bits, bit, s, k, px, py)
           (sum_more (map is_one (take i (rails_in v g0 a))) (map (flipped subtract) (map is_one (take i (rails_in v g0 b)))) subtract (map is_one (rails_in v g1 sums)) (value_in v g1 carry) (value_in v g0 x.one) (flipped subtract (value_in v g0 y.one))
-            (length-bits v g0 a i lt ∙ sym (length-map (map is_one (take i (rails_in v g0 b))) (flipped subtract) ∙ length-bits v g0 b i lt_b)) (before.sum v));
+          (length-bits v g0 a i lt ∙ sym (length-map (map is_one (take i (rails_in v g0 b))) (flipped subtract) ∙ length-bits v g0 b i lt_b)) (before.sum v));
     })
 
 pub sums_all : (old new : List Node) (subtract : Bool) (a b sums : List Rail) (i carry : ℕ) → length a ≡ length b → length a ≤ i → AreSums old new subtract a b i sums carry → GivesRails old new (λ v. sums_of subtract (rails_in v old a) (rails_in v old b)) sums

@@ -5,3 +5,4 @@ pub mod AdderLemmas
 pub mod Arithmetic
 pub mod Comparison
 pub mod RegisterGives
+pub mod Shifting

@@ -2,3 +2,4 @@ pub mod Rails
 pub mod Gates
 pub mod Adders
 pub mod Registers
+pub mod Stages

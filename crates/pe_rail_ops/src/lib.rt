@@ -10,6 +10,7 @@ mod bits;
 mod gate;
 mod numbers;
 mod register;
+mod shifts;
 
 pub use bit::Rail;
 pub use bits::{
@@ -18,3 +19,4 @@ pub use bits::{
 };
 pub use numbers::{add, greater, greater_equal, less, less_equal, subtract};
 pub use register::{RegisterRails, isolated, next_main, next_shadow, visible};
+pub use shifts::{pick, shift_left, shift_right};

@@ -68,7 +68,14 @@ pub fn next_shadow(graph: &mut Graph, inputs: &RegisterRails) -> Result<Rail, Wa
 
 /// What isolation passes on: corrupt without its supply and under a corrupt enable, the clamp value where the enable
 /// has the value of the active sense, else the data.
-pub fn isolated(graph: &mut Graph, on: Lit, enable: &Rail, sense: bool, clamp: bool, x: &Rail) -> Result<Rail, Want>
+pub fn isolated(
+    graph: &mut Graph,
+    on: Lit,
+    enable: &Rail,
+    sense: bool,
+    clamp: bool,
+    x: &Rail,
+) -> Result<Rail, Want>
     requires on_in { IsIn graph.old on }
     requires enable_in { IsRail graph.old enable.now }
     requires x_in { IsRail graph.old x.now }
@@ -82,7 +89,13 @@ pub fn isolated(graph: &mut Graph, on: Lit, enable: &Rail, sense: bool, clamp: b
 }
 
 // The clamp value or the data, by an enable that is known.
-fn passed(graph: &mut Graph, enable: &Rail, sense: bool, clamp: bool, x: &Rail) -> Result<Rail, Want>
+fn passed(
+    graph: &mut Graph,
+    enable: &Rail,
+    sense: bool,
+    clamp: bool,
+    x: &Rail,
+) -> Result<Rail, Want>
     requires enable_in { IsRail graph.old enable.now }
     requires x_in { IsRail graph.old x.now }
     ensures gives { IfOk result (GivesRail graph.old graph.new (λ v. pick_of (rail_in v graph.old enable.now) (cond sense (rail_in v graph.old x.now) (known_of clamp)) (cond sense (known_of clamp) (rail_in v graph.old x.now)))) }
@@ -196,7 +209,13 @@ fn merged(graph: &mut Graph, x: &Rail, y: &Rail) -> Result<Rail, Want>
 }
 
 // The edge of a clock that is known.
-fn stepped(graph: &mut Graph, d: &Rail, held: &Rail, before: &Rail, after: &Rail) -> Result<Rail, Want>
+fn stepped(
+    graph: &mut Graph,
+    d: &Rail,
+    held: &Rail,
+    before: &Rail,
+    after: &Rail,
+) -> Result<Rail, Want>
     requires d_in { IsRail graph.old d.now }
     requires held_in { IsRail graph.old held.now }
     requires before_in { IsRail graph.old before.now }
