@@ -1,4 +1,8 @@
 pub mod Values
 pub mod Operators
+pub mod Words
+pub mod Gates
+pub mod Adder
+pub mod Registers
 pub mod Walk
 pub mod Names

@@ -21,3 +21,13 @@ or_of One _ = One
 or_of _ One = One
 or_of Zero Zero = Zero
 or_of _ _ = Corrupt
+
+-- a ^ b
+abbrev pub xor_of : Val → Val → Val
+xor_of Zero b = b
+xor_of One b = not_of b
+xor_of Corrupt _ = Corrupt
+
+-- a ~^ b
+abbrev pub xnor_of : Val → Val → Val
+xnor_of a b = not_of (xor_of a b)

@@ -3,7 +3,7 @@
 ghost use Rattle.std.specs.Prelude.{◌≡◌, ◌↔◌, IsTrue, Bool, List};
 ghost use Rattle.pe_base.specs.declared.value.Val.{Val};
 ghost use Rattle.pe_base.specs.Values.{Refines, merge_of, pick_of, known_of, IsReplacement, merge_over, exact_extension};
-ghost use Rattle.pe_base.specs.Operators.{and_of, or_of, not_of};
+ghost use Rattle.pe_base.specs.Operators.{and_of, or_of, not_of, xor_of, xnor_of};
 
 /// The value of a bit. A bit without power, or one that depends on it, is corrupt.
 #[derive(Clone, Copy, Debug, PartialEq, Eq)]
@@ -76,6 +76,24 @@ pub fn not(a: Val) -> Val
         Val::One => Val::Zero,
         Val::Corrupt => Val::Corrupt,
     }
+}
+
+/// `a ^ b`
+pub fn xor(a: Val, b: Val) -> Val
+    ensures { result ≡ xor_of a b }
+{
+    match a {
+        Val::Zero => b,
+        Val::One => not(b),
+        Val::Corrupt => Val::Corrupt,
+    }
+}
+
+/// `a ~^ b`
+pub fn xnor(a: Val, b: Val) -> Val
+    ensures { result ≡ xnor_of a b }
+{
+    not(xor(a, b))
 }
 
 /// The law of the exact extension: it is a bit exactly where every replacement of the corrupt inputs by 0 and 1 gives

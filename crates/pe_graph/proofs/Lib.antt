@@ -1,0 +1,4 @@
+pub mod TableLemmas
+pub mod Growth
+pub mod Gates
+pub mod Evaluation

@@ -1,0 +1,11 @@
+//! An and-inverter graph: boolean functions of numbered leaves, in which equal inputs give one node.
+#![tactic(auto)]
+
+mod graph;
+mod literal;
+mod marks;
+mod table;
+
+pub use graph::{Graph, Node};
+pub use literal::Lit;
+pub use marks::Marks;

@@ -1,0 +1,5 @@
+pub mod Rails
+pub mod Gates
+pub mod Adders
+pub mod Registers
+pub mod Stages
