@@ -1,0 +1,4 @@
+pub mod PartsLemmas
+pub mod MarkLemmas
+pub mod LeafLemmas
+pub mod ConeLemmas

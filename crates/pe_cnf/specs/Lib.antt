@@ -1,0 +1,5 @@
+pub mod Clause
+pub mod Parts
+pub mod ClauseSet
+pub mod Cone
+pub mod Marks
