@@ -2,3 +2,4 @@ pub mod PartsLemmas
 pub mod MarkLemmas
 pub mod LeafLemmas
 pub mod ConeLemmas
+pub mod Values

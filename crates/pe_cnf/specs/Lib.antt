@@ -3,3 +3,4 @@ pub mod Parts
 pub mod ClauseSet
 pub mod Cone
 pub mod Marks
+pub mod Meaning

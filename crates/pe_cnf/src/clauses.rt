@@ -1,9 +1,14 @@
 //! The clauses of a question.
 
-ghost use Rattle.std.specs.Prelude.{◌≡◌, ℕ, ◌+◌, ◌<◌, ◌≤◌, ◌^◌, Bool, true, false, None, [], List, length, IfOk, EachIndex};
+ghost use Rattle.std.specs.Prelude.{◌≡◌, ◌≢◌, ℕ, ◌+◌, ◌<◌, ◌≤◌, ◌^◌, Bool, true, false, None, [], List, length, IfOk, EachIndex};
 ghost use Rattle.std.specs.List.{concat};
 ghost use Rattle.pe_graph.specs.Literals.{var_of};
-ghost use Rattle.pe_cnf.specs.Clause.{clause_at, IsBelow, AllBelow};
+ghost use Rattle.pe_graph.specs.declared.graph.Node.{Node};
+ghost use Rattle.pe_graph.specs.Nodes.{value_in, IsGraph};
+ghost use Rattle.pe_cnf.specs.declared.equality.Goal.{Goal as Asked};
+ghost use Rattle.pe_cnf.specs.declared.equality.Equality.{Equality as Cited};
+ghost use Rattle.pe_cnf.specs.Clause.{clause_at, IsBelow, AllBelow, Satisfies};
+ghost use Rattle.pe_cnf.specs.Meaning.{AreTrue};
 ghost use Rattle.pe_cnf.specs.ClauseSet.{ClauseSet, IsSound};
 ghost use Rattle.pe_cnf.specs.Cone.{IsConeOf, HasGoal, HasCited, HasLeaves};
 
@@ -177,3 +182,9 @@ fn above(clause: &[Lit]) -> u64
     }
     vars
 }
+
+/// What the clauses of a cone say: where the context is 1, the sides differ and the cited equalities are true, some
+/// assignment of the variables makes each clause true.
+pub fn cone_law()
+    ensures { (nodes : List Node) (goal : Asked) (width : ℕ) (cited : List Cited) (set : ClauseSet) (v : ℕ → Bool) → IsGraph nodes → HasGoal nodes goal → HasCited nodes cited → IsConeOf nodes goal width cited set → AreTrue nodes goal.ctx cited → value_in v nodes goal.ctx ≡ true → value_in v nodes goal.a ≢ value_in v nodes goal.b → (w : ℕ → Bool) × Satisfies w set.clauses }
+{}

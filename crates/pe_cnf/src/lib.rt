@@ -9,6 +9,6 @@ mod leaves;
 mod list;
 mod marks;
 
-pub use clauses::{Clauses, cone};
+pub use clauses::{Clauses, cone, cone_law};
 pub use equality::{Equality, Goal};
 pub use list::ClauseList;
