@@ -11,8 +11,8 @@ use Rattle.pe_graph.proofs.Growth.{var_of-lit_of}
 use Rattle.pe_cnf.specs.declared.equality.Goal.{Goal}
 use Rattle.pe_cnf.specs.declared.equality.Equality.{Equality}
 use Rattle.pe_cnf.specs.Clause.{has, IsBelow, AllBelow}
-use Rattle.pe_cnf.specs.ClauseSet.{ClauseSet, and_clauses, IsSound}
-use Rattle.pe_cnf.specs.Cone.{Reaches, here, left, right, InCone, cites, is_used, used_before, literal_of, node_clauses, gate_clauses, front_clauses, goal_clauses, cited_clauses, AreLeaves, IsConeBy, HasGoal, HasCited}
+use Rattle.pe_cnf.specs.ClauseSet.{and_clauses}
+use Rattle.pe_cnf.specs.Cone.{Reaches, here, left, right, InCone, cites, is_used, used_before, literal_of, node_clauses, gate_clauses, front_clauses, goal_clauses, cited_clauses, AreLeaves, IsConeBy, HasGoal}
 use Rattle.pe_cnf.specs.Marks.{mark_of, entry_of, AreNumbers}
 use Rattle.pe_cnf.proofs.MarkLemmas.{or_cases, or_left, or_right, true_or_false, not_both, before_strict, cites_at}
 
@@ -34,20 +34,20 @@ cited_more variable cited i e was before mid now lt is start first second =
 lt_or_le : (a b : ℕ) → (a < b) ⊎ (b ≤ a)
 lt_or_le a b = grind arith
 
-below_nothing : (n : ℕ) → IsBelow n []
+pub below_nothing : (n : ℕ) → IsBelow n []
 below_nothing n l h = absurd (not_both false h refl)
 
-below_more : (n x : ℕ) (xs : List ℕ) → var_of x < n → IsBelow n xs → IsBelow n (x ∷ xs)
+pub below_more : (n x : ℕ) (xs : List ℕ) → var_of x < n → IsBelow n xs → IsBelow n (x ∷ xs)
 below_more n x xs b s l h = elim (or_cases (x == l) (has xs l) h) [ inl at ↦ subst (λ k. var_of k < n) (eqb-true x l at) b | inr more ↦ s l more ]
 
-all_nothing : (n : ℕ) → AllBelow n []
+pub all_nothing : (n : ℕ) → AllBelow n []
 all_nothing n id = below_nothing n
 
-all_more : (n : ℕ) (c : List ℕ) (cs : List (List ℕ)) → IsBelow n c → AllBelow n cs → AllBelow n (c ∷ cs)
+pub all_more : (n : ℕ) (c : List ℕ) (cs : List (List ℕ)) → IsBelow n c → AllBelow n cs → AllBelow n (c ∷ cs)
 all_more n c cs b s zero = b
 all_more n c cs b s (suc id) = s id
 
-all_append : (n : ℕ) (xs ys : List (List ℕ)) → AllBelow n xs → AllBelow n ys → AllBelow n (xs ++ ys)
+pub all_append : (n : ℕ) (xs ys : List (List ℕ)) → AllBelow n xs → AllBelow n ys → AllBelow n (xs ++ ys)
 all_append n [] ys a b = b
 all_append n (x ∷ xs) ys a b = all_more n x (xs ++ ys) (a 0) (all_append n xs ys (λ id. a (suc id)) b)
 
@@ -96,7 +96,7 @@ used_cited cone cited x h = or_right (x == 0) _ (or_right (cone x) _ h)
 abbrev pub AreVariables : (ℕ → Bool) → (ℕ → ℕ) → ℕ → Type 0
 AreVariables used variable n = (x : ℕ) → x < n → variable x ≡ used_before used x
 
-variable_below : (used : ℕ → Bool) (variable : ℕ → ℕ) (n x : ℕ) → AreVariables used variable n → used x ≡ true → x < n → variable x < used_before used n
+pub variable_below : (used : ℕ → Bool) (variable : ℕ → ℕ) (n x : ℕ) → AreVariables used variable n → used x ≡ true → x < n → variable x < used_before used n
 variable_below used variable n x s t lt = rw (s x lt) (before_strict used x n t lt)
 
 var-literal_of : (variable : ℕ → ℕ) (l : ℕ) → var_of (literal_of variable l) ≡ variable (var_of l)
@@ -136,7 +136,7 @@ node_below variable n x (And p q) h s =
     let r = s p q refl in
     and_below n _ _ _ (rw (var_of-lit_of (variable x) false) h) (literal_below variable n p r.0) (literal_below variable n q r.1)
 
-gates_below : (cone : ℕ → Bool) (variable : ℕ → ℕ) (nodes : List Node) (n x : ℕ) → ConeBelow cone variable n → IsClosed cone nodes → AllBelow n (gate_clauses cone variable nodes x)
+pub gates_below : (cone : ℕ → Bool) (variable : ℕ → ℕ) (nodes : List Node) (n x : ℕ) → ConeBelow cone variable n → IsClosed cone nodes → AllBelow n (gate_clauses cone variable nodes x)
 gates_below cone variable nodes n zero s k = all_nothing n
 gates_below cone variable nodes n (suc x) s k =
     all_append n (gate_clauses cone variable nodes x) _ (gates_below cone variable nodes n x s k)
@@ -145,7 +145,7 @@ gates_below cone variable nodes n (suc x) s k =
       | inr f ↦ rw f (all_nothing n)
     ])
 
-goal_below : (variable : ℕ → ℕ) (n : ℕ) (goal : Goal) → variable (var_of goal.ctx) < n → variable (var_of goal.a) < n → variable (var_of goal.b) < n → AllBelow n (goal_clauses variable goal)
+pub goal_below : (variable : ℕ → ℕ) (n : ℕ) (goal : Goal) → variable (var_of goal.ctx) < n → variable (var_of goal.a) < n → variable (var_of goal.b) < n → AllBelow n (goal_clauses variable goal)
 goal_below variable n goal c a b =
     let lc = literal_below variable n goal.ctx c in
     let la = literal_below variable n goal.a a in
@@ -158,7 +158,7 @@ goal_below variable n goal c a b =
     (all_more n differ (differ_not ∷ []) (two_below n a_lit b_lit la lb)
     (all_more n differ_not [] (two_below n (complement_of a_lit) (complement_of b_lit) (complement_below n a_lit la) (complement_below n b_lit lb)) (all_nothing n)))
 
-cited_below : (variable : ℕ → ℕ) (n : ℕ) (cited : List Equality) → ((x : ℕ) → cites cited x ≡ true → variable x < n) → AllBelow n (cited_clauses variable cited)
+pub cited_below : (variable : ℕ → ℕ) (n : ℕ) (cited : List Equality) → ((x : ℕ) → cites cited x ≡ true → variable x < n) → AllBelow n (cited_clauses variable cited)
 cited_below variable n [] s = all_nothing n
 cited_below variable n (e ∷ cited) s =
     let r = cites_at (e ∷ cited) 0 e (omega arith) refl in
@@ -174,28 +174,6 @@ cited_below variable n (e ∷ cited) s =
 -- the cone holds its roots and the inputs of its gates
 pub cone_closed : (cone : ℕ → Bool) (nodes : List Node) (goal : Goal) → ((x : ℕ) → (cone x ≡ true → InCone nodes goal x) × (InCone nodes goal x → cone x ≡ true)) → IsClosed cone nodes
 cone_closed cone nodes goal s x p q t e = ((s (var_of p)).1 (cone_left nodes goal x p q e ((s x).0 t)), (s (var_of q)).1 (cone_right nodes goal x p q e ((s x).0 t)))
-
--- the clauses of a cone have variables below the number of used nodes
-pub cone_sound : (cone : ℕ → Bool) (variable : ℕ → ℕ) (nodes : List Node) (goal : Goal) (width : ℕ) (cited : List Equality) (set : ClauseSet) → IsGraph nodes → HasGoal nodes goal → HasCited nodes cited → IsConeBy cone variable nodes goal width cited set → IsSound set
-cone_sound cone variable nodes goal width cited set graph has_goal has_cited s =
-    let used = is_used cone cited in
-    let n = used_before used (length nodes) in
-    let inside : (x : ℕ) → cone x ≡ true → x < length nodes = λ x t. cone_within nodes goal x graph has_goal ((s.cone_is x).0 t) in
-    let in_cone : ConeBelow cone variable n = λ x t. variable_below used variable (length nodes) x s.variable_is (used_cone cone cited x t) (inside x t) in
-    let ctx : cone (var_of goal.ctx) ≡ true = (s.cone_is (var_of goal.ctx)).1 (inl here) in
-    let a : cone (var_of goal.a) ≡ true = (s.cone_is (var_of goal.a)).1 (inr (inl here)) in
-    let b : cone (var_of goal.b) ≡ true = (s.cone_is (var_of goal.b)).1 (inr (inr here)) in
-    let zero_used : 0 < n = before_strict used 0 (length nodes) refl graph.some in
-    let all : AllBelow n (front_clauses cone variable nodes ++ goal_clauses variable goal ++ cited_clauses variable cited) =
-    all_append n (front_clauses cone variable nodes ++ goal_clauses variable goal) _
-    (all_append n (front_clauses cone variable nodes) _
-    (all_more n (0 ∷ []) _ (below_more n 0 [] zero_used (below_nothing n)) (gates_below cone variable nodes n (length nodes) in_cone (cone_closed cone nodes goal s.cone_is)))
-    (goal_below variable n goal (in_cone _ ctx) (in_cone _ a) (in_cone _ b)))
-    (cited_below variable n cited (λ x h. variable_below used variable (length nodes) x s.variable_is (used_cited cone cited x h) (has_cited x h))) in
-    record {
-      below = rw (s.clauses_are, s.vars_are) all;
-      leaves_below = λ i h. let r = s.leaves_are.each i h in rw (r.3, s.vars_are) (in_cone r.0 r.1);
-    }
 
 -- what the parts of a cone make
 pub made_cone : (nodes : List Node) (goal : Goal) (width : ℕ) (cited : List Equality) (marks marks2 : List Bool) (numbers numbers2 : List ℕ) (leaves : List (ℕ × ℕ)) (truth gates : ℕ) (none first front mid all : List (List ℕ)) → length marks ≡ length nodes → ((x : ℕ) → (mark_of marks x ≡ true) ↔ InCone nodes goal x) → marks2 ≡ marks → numbers2 ≡ numbers → AreNumbers (is_used (mark_of marks2) cited) (length marks2) numbers → AreLeaves (mark_of marks2) (entry_of numbers2) nodes leaves → none ≡ [] → truth ≡ 0 → first ≡ none ++ (truth ∷ []) ∷ [] → front ≡ first ++ gate_clauses (mark_of marks2) (entry_of numbers2) nodes (length nodes) → gates ≡ length front → mid ≡ front ++ goal_clauses (entry_of numbers2) goal → all ≡ mid ++ cited_clauses (entry_of numbers2) cited → IsConeBy (mark_of marks2) (entry_of numbers2) nodes goal width cited (record { clauses = all; vars = get_or numbers2 (length marks2) 0; leaves = leaves; width = width; goal = Some goal; gates = gates })

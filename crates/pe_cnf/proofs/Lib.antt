@@ -3,3 +3,5 @@ pub mod MarkLemmas
 pub mod LeafLemmas
 pub mod ConeLemmas
 pub mod Values
+pub mod GateLemmas
+pub mod Soundness

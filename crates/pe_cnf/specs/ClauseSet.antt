@@ -1,8 +1,7 @@
 -- A set of clauses, and what it tells of the cone that it was made from.
-use Rattle.std.specs.Prelude.{ℕ, ◌+◌, ◌*◌, ◌<◌, Option, List, [], ◌∷◌, length, slice_index_or}
+use Rattle.std.specs.Prelude.{ℕ, ◌+◌, ◌*◌, Option, List, [], ◌∷◌, slice_index_or}
 use Rattle.pe_graph.specs.Literals.{complement_of}
 use Rattle.pe_cnf.specs.declared.equality.Goal.{Goal}
-use Rattle.pe_cnf.specs.Clause.{AllBelow}
 
 -- the clauses by their numbers, and a number above each variable; of a cone the numbers of its leaves, each with its
 -- variable, how many leaves the job has, the goal, and how many clauses stand before the unit clause of its context
@@ -28,8 +27,3 @@ gate_start g = 1 + 3 * g
 -- the variable of the i-th leaf
 abbrev pub leaf_var : List (ℕ × ℕ) → ℕ → ℕ
 leaf_var leaves i = (slice_index_or leaves i (0, 0)).1
-
--- what holds of each set: the variables are below `vars`
-pub record IsSound (set : ClauseSet) : Type 0 where
-  pub below : AllBelow set.vars set.clauses
-  pub leaves_below : (i : ℕ) → i < length set.leaves → leaf_var set.leaves i < set.vars

@@ -9,7 +9,8 @@ ghost use Rattle.pe_cnf.specs.declared.equality.Goal.{Goal as Asked};
 ghost use Rattle.pe_cnf.specs.declared.equality.Equality.{Equality as Cited};
 ghost use Rattle.pe_cnf.specs.Clause.{clause_at, IsBelow, AllBelow, Satisfies};
 ghost use Rattle.pe_cnf.specs.Meaning.{AreTrue};
-ghost use Rattle.pe_cnf.specs.ClauseSet.{ClauseSet, IsSound};
+ghost use Rattle.pe_cnf.specs.ClauseSet.{ClauseSet};
+ghost use Rattle.pe_cnf.specs.Sound.{IsSound};
 ghost use Rattle.pe_cnf.specs.Cone.{IsConeOf, HasGoal, HasCited, HasLeaves};
 
 use crate::equality::{Equality, Goal};
@@ -35,7 +36,8 @@ pub struct Clauses {
 }
 
 impl Model for Clauses {
-    ghost use Rattle.pe_cnf.specs.ClauseSet.{ClauseSet, IsSound};
+    ghost use Rattle.pe_cnf.specs.ClauseSet.{ClauseSet};
+    ghost use Rattle.pe_cnf.specs.Sound.{IsSound};
 
     ghost Value = { ClauseSet };
 
@@ -69,7 +71,7 @@ impl Clauses {
         })
     }
 
-    /// What holds of each: its variables are below `vars`.
+    /// What holds of each: its variables are below `vars`, and with a goal it begins with gates.
     pub fn clauses_law(&self)
         ensures { IsSound self.now }
     {

@@ -1,5 +1,6 @@
 use Rattle.pe_cnf.specs.Marks.{mark_of, entry_of}
-use Rattle.pe_cnf.proofs.ConeLemmas.{cone_sound, made_cone}
+use Rattle.pe_cnf.proofs.ConeLemmas.{made_cone}
+use Rattle.pe_cnf.proofs.Soundness.{cone_sound}
 use Rattle.pe_cnf.proofs.clauses.cone.Goals as goal
 
 pub invariant_of-result : goal.invariant_of-result
