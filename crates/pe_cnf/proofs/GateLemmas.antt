@@ -120,10 +120,10 @@ built_plain cone variable leaves x clauses n h s = record {
   low = λ u z t le c. s.low u z t (omega arith) c;
 }
 
-value_leaf : (leaves : List (ℕ × ℕ)) (clauses : List (List ℕ)) (n y : ℕ) → is_leaf leaves y ≡ true → has_value leaves clauses n y ≡ true
+pub value_leaf : (leaves : List (ℕ × ℕ)) (clauses : List (List ℕ)) (n y : ℕ) → is_leaf leaves y ≡ true → has_value leaves clauses n y ≡ true
 value_leaf leaves clauses n y h = or_right (y == 0) _ (or_left _ _ h)
 
-value_more : (leaves : List (ℕ × ℕ)) (clauses : List (List ℕ)) (n y : ℕ) → has_value leaves clauses n y ≡ true → has_value leaves clauses (suc n) y ≡ true
+pub value_more : (leaves : List (ℕ × ℕ)) (clauses : List (List ℕ)) (n y : ℕ) → has_value leaves clauses n y ≡ true → has_value leaves clauses (suc n) y ≡ true
 value_more leaves clauses n y h =
     elim (or_cases (y == 0) _ h) [
       | inl z ↦ or_left _ _ z
@@ -205,7 +205,7 @@ built cone variable nodes leaves (suc x) frame =
       | inr f ↦ (r.0, rw (f, append-nil) (built_plain cone variable leaves x ((0 ∷ []) ∷ gate_clauses cone variable nodes x) r.0 (λ t. absurd (not_both (cone x) t f)) r.1))
     ]
 
-order : (x y : ℕ) → (x < y) ⊎ ((x ≡ y) ⊎ (y < x))
+pub order : (x y : ℕ) → (x < y) ⊎ ((x ≡ y) ⊎ (y < x))
 order x y = grind arith
 
 -- the variables of two nodes of the cone are the same only where the nodes are

@@ -229,7 +229,7 @@ before_strict used x y t lt =
     let le = before_rises used (suc x) y (omega arith) in
     omega arith
 
-or_false : (a : Bool) → (a || false) ≡ a
+pub or_false : (a : Bool) → (a || false) ≡ a
 or_false true = refl
 or_false false = refl
 

@@ -75,12 +75,12 @@ value_literal used variable v nodes l s t lt =
     ap (λ k. values_of used v nodes k) (s (var_of l) lt) ∙ ap (λ x. get_or (values v nodes) x false) (node_of_number used (length nodes) (var_of l) t lt) in
     rw (var_of-lit_of (variable (var_of l)) (is_negated l), is_negated-lit_of (variable (var_of l)) (is_negated l), at) refl
 
-and_true : (x p q : Bool) → x ≡ (p && q) → ((not x || (p || false)) ≡ true) × ((not x || (q || false)) ≡ true) × ((x || (not p || (not q || false))) ≡ true)
+pub and_true : (x p q : Bool) → x ≡ (p && q) → ((not x || (p || false)) ≡ true) × ((not x || (q || false)) ≡ true) × ((x || (not p || (not q || false))) ≡ true)
 and_true x true true e = rw e (refl, refl, refl)
 and_true x true false e = rw e (refl, refl, refl)
 and_true x false q e = rw e (refl, refl, refl)
 
-gate_true : (w : ℕ → Bool) (x p q : ℕ) → literal_value w x ≡ (literal_value w p && literal_value w q) → Satisfies w (and_clauses x p q)
+pub gate_true : (w : ℕ → Bool) (x p q : ℕ) → literal_value w x ≡ (literal_value w p && literal_value w q) → Satisfies w (and_clauses x p q)
 gate_true w x p q e =
     let nx = value_complement w x in
     let np = value_complement w p in

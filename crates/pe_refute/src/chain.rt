@@ -13,7 +13,8 @@ use pe_cnf::Clauses;
 /// Whether each clause of the chain follows from those before it, and the last is empty.
 pub fn check_chain(given: &Clauses, chain: &[Derived], scratch: &mut Scratch) -> bool
     requires { AllBelow scratch.old.vars (all_clauses given.now.clauses chain.now) }
-    ensures { IsTrue result ↔ IsGoodChain given.now.clauses chain.now }
+    ensures good { IsTrue result ↔ IsGoodChain given.now.clauses chain.now }
+    ensures room { scratch.new.vars ≡ scratch.old.vars }
 {
     for (i, d) in chain.iter().enumerate() {
         if !follows(

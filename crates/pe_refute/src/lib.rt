@@ -2,10 +2,14 @@
 #![tactic(auto)]
 
 mod chain;
+mod checker;
 mod evidence;
 mod follow;
 mod scratch;
+mod table;
 
 pub use chain::{chain_law, check_chain};
+pub use checker::check;
 pub use evidence::{Derived, Evidence};
 pub use scratch::Scratch;
+pub use table::check_table;
