@@ -1,0 +1,6 @@
+pub mod Follow
+pub mod Chain
+pub mod Known
+pub mod Evidence
+pub mod Table
+pub mod Evaluation
