@@ -73,7 +73,7 @@ list_push table n entry leaves now e above is s =
     })
 
 -- no leaf stands past the end
-no_leaf_past : (nodes : List Node) (x k : ℕ) → node_at nodes x ≡ Leaf k → x < length nodes
+pub no_leaf_past : (nodes : List Node) (x k : ℕ) → node_at nodes x ≡ Leaf k → x < length nodes
 no_leaf_past [] x k e = absurd cc
 no_leaf_past (n ∷ nodes) zero k e = omega arith
 no_leaf_past (n ∷ nodes) (suc x) k e = let h = no_leaf_past nodes x k e in omega arith

@@ -238,3 +238,16 @@ pub start_marks : (n : ℕ) (m0 m1 m2 m3 : List Bool) (x y z x2 y2 z2 : ℕ) →
 start_marks n m0 m1 m2 m3 x y z x2 y2 z2 none ex ey ez first second third i =
     let nothing : mark_of m0 i ≡ false = ap (λ m. mark_of m i) none ∙ none_marked n i in
     third i ∙ ap (λ k. (i == k) || mark_of m2 i) ez ∙ ap (λ b. (i == z) || b) (second i ∙ ap (λ k. (i == k) || mark_of m1 i) ey ∙ ap (λ b. (i == y) || b) (first i ∙ ap (λ k. (i == k) || mark_of m0 i) ex ∙ ap (λ b. (i == x) || b) nothing ∙ or_false (i == x)))
+
+-- one more cited equality within a limit
+pub cited_within : (cited : List Equality) (i n : ℕ) (e : Equality) → i < length cited → get_or cited i e ≡ e → var_of e.a < n → var_of e.b < n → ((x : ℕ) → cites (take i cited) x ≡ true → x < n) → (x : ℕ) → cites (take (i + 1) cited) x ≡ true → x < n
+cited_within cited i n e lt is la lb before x h =
+    let more = list_any_more (λ (f : Equality). (x == var_of f.a) || (x == var_of f.b)) cited i e lt in
+    let end : (cites (take i cited) x || ((x == var_of e.a) || (x == var_of e.b))) ≡ true = sym (more ∙ ap (λ f. cites (take i cited) x || ((x == var_of f.a) || (x == var_of f.b))) is) ∙ h in
+    elim (or_cases (cites (take i cited) x) _ end) [
+      | inl old ↦ before x old
+      | inr new ↦ elim (or_cases (x == var_of e.a) (x == var_of e.b) new) [
+        | inl at ↦ let same = eqb-true x (var_of e.a) at in omega arith
+        | inr at ↦ let same = eqb-true x (var_of e.b) at in omega arith
+      ]
+    ]

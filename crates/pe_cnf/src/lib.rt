@@ -2,6 +2,7 @@
 //! are cited.
 #![tactic(auto)]
 
+mod askable;
 mod clauses;
 mod equality;
 mod gates;
@@ -9,6 +10,10 @@ mod leaves;
 mod list;
 mod marks;
 
+pub use askable::is_askable;
 pub use clauses::{Clauses, cone, cone_law};
 pub use equality::{Equality, Goal};
 pub use list::ClauseList;
+
+#[cfg(test)]
+mod tests;

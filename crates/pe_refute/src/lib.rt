@@ -13,3 +13,6 @@ pub use checker::check;
 pub use evidence::{Derived, Evidence};
 pub use scratch::Scratch;
 pub use table::check_table;
+
+#[cfg(test)]
+mod tests;
