@@ -1,3 +1,4 @@
 pub mod Literals
 pub mod Nodes
 pub mod Table
+pub mod Cone

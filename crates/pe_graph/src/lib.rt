@@ -2,10 +2,12 @@
 #![tactic(auto)]
 
 mod graph;
+mod job;
 mod literal;
 mod marks;
 mod table;
 
 pub use graph::{Graph, Node};
+pub use job::{Goal, Job, Leaf, Point, Shown};
 pub use literal::Lit;
 pub use marks::Marks;

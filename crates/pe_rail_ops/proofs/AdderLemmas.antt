@@ -1,12 +1,11 @@
 -- What adders of literals come to.
-use Rattle.std.proofs.Common.{◌≡◌, ℕ, Bool, true, false, not, ◌&&◌, ◌||◌, List, refl, sym, ap, ◌∙◌}
+use Rattle.std.proofs.Common.{◌≡◌, ℕ, Bool, true, false, not, ◌&&◌, ◌||◌, List, refl}
 use Rattle.pe_base.specs.Adder.{sum_bit, carry_bit, less_bit}
 use Rattle.pe_graph.specs.declared.graph.Node.{Node}
 use Rattle.pe_graph.specs.Literals.{complement_of}
-use Rattle.pe_graph.specs.Nodes.{IsIn, value_in, Grows, Gives}
+use Rattle.pe_graph.specs.Nodes.{IsIn, value_in, Gives}
 use Rattle.pe_graph.proofs.Growth.{grows_on}
-use Rattle.pe_graph.proofs.Gates.{value_in-complement_of, IsIn-complement_of}
-use Rattle.pe_rail_ops.specs.declared.adder.Added.{Added}
+use Rattle.pe_graph.proofs.Gates.{value_in-complement_of}
 use Rattle.pe_rail_ops.specs.Adders.{GivesSum}
 
 differ_table : (x y : Bool) → (not (x && y) && not (not x && not y)) ≡ sum_bit x y false

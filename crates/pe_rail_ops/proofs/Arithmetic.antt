@@ -1,15 +1,14 @@
 -- Steps of the loops that keep, add and compare rails.
-use Rattle.std.proofs.Common.{◌≡◌, ℕ, ◌+◌, ◌<◌, ◌≤◌, Bool, true, false, cond, not, ◌&&◌, ◌||◌, List, [], ◌∷◌, ◌++◌, length, get_or, take, refl, sym, ap, ◌∙◌, arith}
-use Rattle.std.specs.Prelude.{All, map, nat_lt, replicate}
-use Rattle.std.specs.List.{list_all}
-use Rattle.std.proofs.lemmas.List.{map-append, length-map, take_all, length-take-le}
+use Rattle.std.proofs.Common.{◌≡◌, ℕ, ◌+◌, ◌<◌, ◌≤◌, Bool, true, false, ◌&&◌, ◌||◌, List, [], ◌∷◌, ◌++◌, length, get_or, take, refl, sym, ap, ◌∙◌, arith}
+use Rattle.std.specs.Prelude.{All, map, nat_lt}
+use Rattle.std.proofs.lemmas.List.{map-append, length-map, length-take-le}
 use Rattle.std.proofs.lemmas.List.Elements.{All-push, All-nil}
 use Rattle.pe_base.specs.declared.value.Val.{Val}
 use Rattle.pe_base.specs.declared.value.Val.TheVariants.{Zero, One, Corrupt}
 use Rattle.pe_base.specs.Values.{known_of}
 use Rattle.pe_base.specs.Registers.{kept_of}
-use Rattle.pe_base.specs.Adder.{sum_bit, carry_bit, less_bit}
-use Rattle.pe_base.specs.Words.{is_one, is_known, all_known, one_if, number_of, value_number, number_bits}
+use Rattle.pe_base.specs.Adder.{less_bit}
+use Rattle.pe_base.specs.Words.{is_one, is_known, all_known, value_number}
 use Rattle.pe_base.proofs.Numbers.{IsSum, sum_none, sum_more, sum_all, less_more}
 use Rattle.pe_graph.specs.declared.graph.Node.{Node}
 use Rattle.pe_graph.specs.Literals.{truth_of}
@@ -18,9 +17,9 @@ use Rattle.pe_graph.proofs.Growth.{grows_not, grows_on}
 use Rattle.pe_graph.proofs.Gates.{value_in-truth_of, IsIn-truth_of}
 use Rattle.pe_rail_ops.specs.declared.bit.Rail.{Rail}
 use Rattle.pe_rail_ops.specs.declared.adder.Added.{Added}
-use Rattle.pe_rail_ops.specs.Adders.{flipped, GivesSum, sums_of, total_of}
+use Rattle.pe_rail_ops.specs.Adders.{flipped, GivesSum, sums_of}
 use Rattle.pe_rail_ops.specs.Rails.{rail_of, rail_in, rails_in, IsRail, GivesRail, GivesRails}
-use Rattle.pe_rail_ops.proofs.Rails.{rail_same, rails_same, rails_kept, gives_as, gives_on, rails_as, rails_on, rails_push}
+use Rattle.pe_rail_ops.proofs.Rails.{rail_same, rails_same, rails_kept, rails_as, rails_push}
 use Rattle.pe_rail_ops.proofs.Loops.{rail_at, take-rails_in, take-rails_in_all, length-rails_in}
 
 -- one value more that power keeps

@@ -1,20 +1,20 @@
 -- Sums and comparisons that are kept where all bits are known.
-use Rattle.std.proofs.Common.{◌≡◌, ℕ, zero, suc, ◌+◌, ◌-◌, ◌/◌, ◌^◌, ◌*◌, Bool, true, false, cond, not, ◌&&◌, List, [], ◌∷◌, length, refl, sym, ap, ◌∙◌, arith}
+use Rattle.std.proofs.Common.{◌≡◌, ℕ, zero, suc, ◌+◌, ◌/◌, ◌^◌, Bool, true, false, cond, not, ◌&&◌, List, [], ◌∷◌, length, refl, sym, ap, ◌∙◌, arith}
 use Rattle.std.specs.Prelude.{All, map, nat_lt, replicate}
 use Rattle.std.proofs.lemmas.List.{length-map}
 use Rattle.pe_base.specs.declared.value.Val.{Val}
 use Rattle.pe_base.specs.declared.value.Val.TheVariants.{Corrupt}
 use Rattle.pe_base.specs.Values.{known_of}
 use Rattle.pe_base.specs.Registers.{kept_of}
-use Rattle.pe_base.specs.Words.{is_one, all_known, one_if, number_of, bits_of, value_number, number_bits, less_of, less_equal_of, greater_of, greater_equal_of}
+use Rattle.pe_base.specs.Words.{is_one, all_known, one_if, number_of, bits_of, value_number, number_bits, less_equal_of, greater_of, greater_equal_of}
 use Rattle.pe_base.proofs.Numbers.{number_of-not, nat_le-not}
 use Rattle.pe_graph.specs.declared.graph.Node.{Node}
-use Rattle.pe_graph.specs.Nodes.{IsIn, value_in, Grows, Gives}
+use Rattle.pe_graph.specs.Nodes.{value_in, Gives}
 use Rattle.pe_graph.proofs.Growth.{grows_on}
 use Rattle.pe_rail_ops.specs.declared.bit.Rail.{Rail}
 use Rattle.pe_rail_ops.specs.Adders.{flipped, sums_of, total_of}
 use Rattle.pe_rail_ops.specs.Rails.{rail_in, rails_in, IsRail, GivesRail, GivesRails}
-use Rattle.pe_rail_ops.proofs.Rails.{rail_same, rails_same, gives_on, rails_on}
+use Rattle.pe_rail_ops.proofs.Rails.{rails_same, gives_on, rails_on}
 use Rattle.pe_rail_ops.proofs.Loops.{length-rails_in, one_rail}
 
 -- values that power keeps, and that it does not

@@ -1,12 +1,12 @@
 -- Rails as a graph grows.
-use Rattle.std.proofs.Common.{◌≡◌, ℕ, ◌+◌, ◌<◌, Bool, true, false, cond, not, ◌&&◌, ◌||◌, List, [], ◌∷◌, ◌++◌, length, refl, sym, ap, ◌∙◌, get_or}
-use Rattle.std.specs.Prelude.{All, map}
+use Rattle.std.proofs.Common.{◌≡◌, ℕ, Bool, cond, ◌&&◌, ◌||◌, List, [], ◌∷◌, ◌++◌, refl, ◌∙◌}
+use Rattle.std.specs.Prelude.{All}
 use Rattle.std.proofs.lemmas.List.{map-append}
-use Rattle.std.proofs.lemmas.List.Elements.{All-head, All-tail, All-weaker, All-push, All-get_or}
+use Rattle.std.proofs.lemmas.List.Elements.{All-head, All-tail, All-weaker, All-push}
 use Rattle.pe_base.specs.declared.value.Val.{Val}
 use Rattle.pe_base.specs.declared.value.Val.TheVariants.{Corrupt}
-use Rattle.pe_base.specs.Values.{known_of, pick_of}
-use Rattle.pe_base.specs.Operators.{not_of, and_of, or_of, xor_of, xnor_of}
+use Rattle.pe_base.specs.Values.{pick_of}
+use Rattle.pe_base.specs.Operators.{not_of, and_of, or_of}
 use Rattle.pe_graph.specs.declared.graph.Node.{Node}
 use Rattle.pe_graph.specs.Nodes.{IsIn, IsGraph, value_in, Grows, Gives}
 use Rattle.pe_graph.specs.Literals.{truth_of}
@@ -14,8 +14,8 @@ use Rattle.pe_graph.proofs.Growth.{grows_not, grows_on}
 use Rattle.pe_graph.proofs.Gates.{value_in-truth_of, IsIn-truth_of}
 use Rattle.pe_base.specs.Words.{is_one}
 use Rattle.pe_rail_ops.specs.declared.bit.Rail.{Rail}
-use Rattle.pe_rail_ops.specs.Rails.{rail_of, rail_in, rails_in, side_of, IsRail, GivesRail, GivesRails}
-use Rattle.pe_rail_ops.proofs.Tables.{and_rail, and_apart, or_rail, or_apart, kept_rail, kept_apart, picked, picked_apart, pick-xor, constant_rail, constant_apart}
+use Rattle.pe_rail_ops.specs.Rails.{rail_in, rails_in, side_of, IsRail, GivesRail, GivesRails}
+use Rattle.pe_rail_ops.proofs.Tables.{and_rail, and_apart, or_rail, or_apart, kept_rail, kept_apart, picked, picked_apart, constant_rail, constant_apart}
 
 pub grows_same : (a b c : List Node) → Grows a b → c ≡ b → Grows a c
 grows_same a b c g e = rw e g

@@ -1,10 +1,10 @@
 -- The law of registers on rails, step by step.
-use Rattle.std.proofs.Common.{◌≡◌, ℕ, Bool, true, false, cond, not, ◌&&◌, ◌||◌, List, refl, sym, ap, ◌∙◌}
+use Rattle.std.proofs.Common.{◌≡◌, ℕ, Bool, true, false, cond, ◌&&◌, ◌||◌, List, refl, ap, ◌∙◌}
 use Rattle.pe_base.specs.declared.value.Val.{Val}
 use Rattle.pe_base.specs.declared.value.Val.TheVariants.{Zero, One, Corrupt}
 use Rattle.pe_base.specs.Values.{known_of, pick_of, merge_of}
 use Rattle.pe_base.specs.Words.{is_known}
-use Rattle.pe_base.specs.Registers.{kept_of, main_of, shadow_of, chosen_of, visible_of, edge_of, next_main_of, next_shadow_of, isolated_of}
+use Rattle.pe_base.specs.Registers.{kept_of, shadow_of, chosen_of, visible_of, edge_of, next_shadow_of, isolated_of}
 use Rattle.pe_base.proofs.RegisterLemmas.{chosen_is}
 use Rattle.pe_graph.specs.declared.graph.Node.{Node}
 use Rattle.pe_graph.specs.Nodes.{IsIn, value_in, Grows, Gives}
@@ -13,7 +13,7 @@ use Rattle.pe_rail_ops.specs.declared.bit.Rail.{Rail}
 use Rattle.pe_rail_ops.specs.declared.register.RegisterRails.{RegisterRails}
 use Rattle.pe_rail_ops.specs.Registers.{inputs_in, AreInputs}
 use Rattle.pe_rail_ops.specs.Rails.{rail_in, IsRail, GivesRail}
-use Rattle.pe_rail_ops.proofs.Rails.{rail_same, rail_kept, gives_as, gives_on}
+use Rattle.pe_rail_ops.proofs.Rails.{rail_same, rail_kept, gives_on}
 use Rattle.pe_rail_ops.proofs.Arithmetic.{known_sides}
 
 -- the inputs keep their values

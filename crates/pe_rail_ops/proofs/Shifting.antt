@@ -1,5 +1,5 @@
 -- Shifts, one bit of the amount after the other.
-use Rattle.std.proofs.Common.{◌≡◌, ℕ, zero, suc, ◌+◌, ◌-◌, ◌*◌, ◌^◌, ◌<◌, ◌≤◌, Bool, true, false, cond, ◌&&◌, List, [], ◌∷◌, ◌++◌, length, get_or, take, drop, refl, sym, ap, ◌∙◌, arith, inl, inr, add-one, zero-add}
+use Rattle.std.proofs.Common.{◌≡◌, ℕ, zero, suc, ◌+◌, ◌-◌, ◌*◌, ◌^◌, ◌<◌, ◌≤◌, Bool, true, false, cond, List, [], ◌∷◌, ◌++◌, length, get_or, take, drop, refl, sym, ap, ◌∙◌, arith, inl, inr, add-one, zero-add}
 use Rattle.std.specs.Prelude.{All, map, min, replicate}
 use Rattle.std.proofs.Math.Seq.{take-append-add}
 use Rattle.std.proofs.lemmas.Bool.{cases_lt}
@@ -11,17 +11,17 @@ use Rattle.pe_base.specs.declared.value.Val.{Val}
 use Rattle.pe_base.specs.declared.value.Val.TheVariants.{Zero, Corrupt}
 use Rattle.pe_base.specs.Values.{known_of, pick_of}
 use Rattle.pe_base.specs.Registers.{kept_of}
-use Rattle.pe_base.specs.Words.{is_one, all_known, one_if, number_of, value_number, each_pair, picked_bit}
+use Rattle.pe_base.specs.Words.{is_one, all_known, one_if, number_of, value_number, each_pair}
 use Rattle.pe_base.proofs.Numbers.{number_of-push}
 use Rattle.pe_graph.specs.declared.graph.Node.{Node}
-use Rattle.pe_graph.specs.Nodes.{IsIn, value_in, Grows, Gives}
+use Rattle.pe_graph.specs.Nodes.{value_in, Gives}
 use Rattle.pe_graph.proofs.Growth.{grows_on}
 use Rattle.pe_rail_ops.specs.declared.bit.Rail.{Rail}
 use Rattle.pe_rail_ops.specs.declared.shifts.Direction.{Direction}
 use Rattle.pe_rail_ops.specs.declared.shifts.Direction.TheVariants.{Left, Right}
 use Rattle.pe_rail_ops.specs.Rails.{rail_in, rails_in, IsRail, GivesRail, GivesRails}
 use Rattle.pe_rail_ops.specs.Stages.{shifted_in, shift_word, moved_rails}
-use Rattle.pe_rail_ops.proofs.Rails.{rail_same, rails_same, gives_on, rails_as, rails_on, rails_at_once}
+use Rattle.pe_rail_ops.proofs.Rails.{rails_same, gives_on, rails_as, rails_on, rails_at_once}
 use Rattle.pe_rail_ops.proofs.Loops.{rail_at, length-rails_in, take-rails_in_all}
 use Rattle.pe_rail_ops.proofs.Comparison.{kept_all_on, kept_all_off}
 use Rattle.pe_rail_ops.proofs.Arithmetic.{one_bits, length-bits}

@@ -1,5 +1,5 @@
 -- Addition and comparison on literals.
-use Rattle.std.specs.Prelude.{◌≡◌, ℕ, ◌+◌, Bool, true, false, not, nat_lt, List, length, map}
+use Rattle.std.specs.Prelude.{◌≡◌, ℕ, ◌+◌, Bool, true, false, not, List, length, map}
 use Rattle.pe_base.specs.declared.value.Val.{Val}
 use Rattle.pe_base.specs.Adder.{sum_bit, carry_bit}
 use Rattle.pe_base.specs.Words.{is_one, one_if, number_of, number_bits, add_of, subtract_of}

@@ -1,6 +1,6 @@
 -- Rails: two literals for a value, one that says that it is 1 and one that says that it is 0. Lists of rails have the
 -- lowest bit first.
-use Rattle.std.specs.Prelude.{◌≡◌, ℕ, Bool, true, false, cond, not, ◌&&◌, ◌||◌, List, map, All}
+use Rattle.std.specs.Prelude.{◌≡◌, ℕ, Bool, false, cond, ◌&&◌, ◌||◌, List, map, All}
 use Rattle.pe_base.specs.declared.value.Val.{Val}
 use Rattle.pe_base.specs.declared.value.Val.TheVariants.{Zero, One, Corrupt}
 use Rattle.pe_graph.specs.declared.graph.Node.{Node}

@@ -1,7 +1,6 @@
 -- Shifts by one bit of an amount after the other.
-use Rattle.std.specs.Prelude.{ℕ, ◌-◌, Bool, List, ◌++◌, length, take, drop, replicate}
+use Rattle.std.specs.Prelude.{ℕ, ◌-◌, List, ◌++◌, length, take, drop, replicate}
 use Rattle.pe_base.specs.declared.value.Val.{Val}
-use Rattle.pe_base.specs.declared.value.Val.TheVariants.{Zero}
 use Rattle.pe_base.specs.Words.{shift_left_of, shift_right_of}
 use Rattle.pe_rail_ops.specs.declared.bit.Rail.{Rail}
 use Rattle.pe_rail_ops.specs.declared.shifts.Direction.{Direction}

@@ -1,9 +1,7 @@
-use Rattle.std.proofs.Common.{◌≡◌, ◌∙◌, ap, sym, subst}
+use Rattle.std.proofs.Common.{◌≡◌, ◌∙◌, ap}
 use Rattle.pe_base.specs.Words.{is_one}
 use Rattle.pe_base.specs.Operators.{not_of}
 use Rattle.pe_graph.specs.Literals.{truth_of}
-use Rattle.pe_rail_ops.specs.declared.bit.Rail.{Rail}
-use Rattle.pe_rail_ops.specs.Rails.{IsRail, rail_in}
 use Rattle.pe_rail_ops.proofs.Rails.{constant_is, constant_value}
 use Rattle.pe_rail_ops.proofs.bit.constant.Goals as goal
 

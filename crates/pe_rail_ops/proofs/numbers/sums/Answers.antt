@@ -1,4 +1,3 @@
-use Rattle.std.proofs.Common.{◌≡◌}
 use Rattle.pe_rail_ops.proofs.Arithmetic.{sums_step, sums_all, sums_none}
 use Rattle.pe_rail_ops.proofs.numbers.sums.Goals as goal
 

@@ -1,4 +1,3 @@
-use Rattle.std.proofs.Common.{take}
 use Rattle.pe_rail_ops.proofs.Arithmetic.{AreSums}
 use Rattle.pe_rail_ops.proofs.numbers.sums.Given as goal
 

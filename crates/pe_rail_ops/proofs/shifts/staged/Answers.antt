@@ -1,5 +1,4 @@
-use Rattle.std.proofs.Common.{◌≡◌, ◌≤◌, ◌*◌, length, ap, ◌∙◌, sym, arith}
-use Rattle.std.specs.Prelude.{min}
+use Rattle.std.proofs.Common.{length, ap, ◌∙◌, arith}
 use Rattle.pe_rail_ops.proofs.Shifting.{staged_none, staged_step, staged_all, next_step}
 use Rattle.pe_rail_ops.proofs.shifts.staged.Goals as goal
 
