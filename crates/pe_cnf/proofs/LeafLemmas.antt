@@ -10,13 +10,6 @@ use Rattle.pe_cnf.specs.Marks.{entry_of, IsLeafTable, IsListOf}
 lt_or_at : (i n : ℕ) → i < n + 1 → (i < n) ⊎ (i ≡ n)
 lt_or_at i n h = grind arith
 
-pub list_none : (table : List ℕ) → IsListOf table 0 []
-list_none table = record {
-  rise = λ i j lt h. absurd (omega arith);
-  each = λ i h. absurd (omega arith);
-  all = λ k h. absurd (omega arith);
-}
-
 -- an entry that is 0
 pub list_skip : (table : List ℕ) (n : ℕ) (leaves : List (ℕ × ℕ)) → entry_of table n ≡ 0 → IsListOf table n leaves → IsListOf table (n + 1) leaves
 list_skip table n leaves e s = record {

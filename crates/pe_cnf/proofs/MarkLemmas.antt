@@ -9,7 +9,7 @@ use Rattle.pe_graph.specs.Literals.{var_of}
 use Rattle.pe_graph.specs.Nodes.{node_at, AreBelow}
 use Rattle.pe_cnf.specs.declared.equality.Goal.{Goal}
 use Rattle.pe_cnf.specs.declared.equality.Equality.{Equality}
-use Rattle.pe_cnf.specs.Cone.{Reaches, here, left, right, InCone, cites, is_used, used_before}
+use Rattle.pe_cnf.specs.Cone.{Reaches, here, left, right, InCone, cites, used_before}
 use Rattle.pe_cnf.specs.Marks.{mark_of, names, Spreads}
 
 -- cases of a disjunction
@@ -154,40 +154,6 @@ cone_marked nodes goal old new start s x = (
             ]
       ],
 )
-
-or_moved : (a b z c t : Bool) → (a || (b || (z || (c || t)))) ≡ (z || (c || (t || (a || b))))
-or_moved true true true c t = refl
-or_moved true true false true t = refl
-or_moved true true false false true = refl
-or_moved true true false false false = refl
-or_moved true false true c t = refl
-or_moved true false false true t = refl
-or_moved true false false false true = refl
-or_moved true false false false false = refl
-or_moved false true true c t = refl
-or_moved false true false true t = refl
-or_moved false true false false true = refl
-or_moved false true false false false = refl
-or_moved false false true c t = refl
-or_moved false false false true t = refl
-or_moved false false false false true = refl
-or_moved false false false false false = refl
-
-or_nothing : (z c : Bool) → (z || c) ≡ (z || (c || false))
-or_nothing true c = refl
-or_nothing false true = refl
-or_nothing false false = refl
-
--- no equality is cited yet
-pub used_none : (cone : ℕ → Bool) (y : ℕ) → ((y == 0) || cone y) ≡ is_used cone [] y
-used_none cone y = or_nothing (y == 0) (cone y)
-
--- and one more
-pub used_more : (cone was mid now : ℕ → Bool) (cited : List Equality) (i : ℕ) (e : Equality) → i < length cited → get_or cited i e ≡ e → ((x : ℕ) → was x ≡ is_used cone (take i cited) x) → ((x : ℕ) → mid x ≡ ((x == var_of e.b) || was x)) → ((x : ℕ) → now x ≡ ((x == var_of e.a) || mid x)) → (x : ℕ) → now x ≡ is_used cone (take (i + 1) cited) x
-used_more cone was mid now cited i e lt is before b a x =
-    let more = list_any_more (λ (f : Equality). (x == var_of f.a) || (x == var_of f.b)) cited i e lt in
-    let end : cites (take (i + 1) cited) x ≡ (cites (take i cited) x || ((x == var_of e.a) || (x == var_of e.b))) = more ∙ ap (λ f. cites (take i cited) x || ((x == var_of f.a) || (x == var_of f.b))) is in
-    rw (a x, b x, before x, end) (or_moved (x == var_of e.a) (x == var_of e.b) (x == 0) (cone x) (cites (take i cited) x))
 
 -- a side of a cited equality
 pub cites_at : (cited : List Equality) (i : ℕ) (e : Equality) → i < length cited → get_or cited i e ≡ e → (cites cited (var_of e.a) ≡ true) × (cites cited (var_of e.b) ≡ true)

@@ -1,3 +1,4 @@
+-- A good chain refutes the given clauses.
 use Rattle.std.proofs.Common.{◌≡◌, ◌≢◌, ℕ, ◌-◌, ◌<◌, ◌≤◌, ◌==◌, Bool, true, false, cond, List, [], ◌∷◌, length, get_or, take, refl, ap, sym, ◌∙◌, subst, arith, eq-eqb, inl, inr, zero, suc, ◌⊎◌, not, add-one}
 use Rattle.std.proofs.lemmas.Bool.{eqb-true}
 use Rattle.pe_graph.proofs.Gates.{var_of-complement_of, is_negated-complement_of}

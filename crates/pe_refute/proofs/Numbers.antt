@@ -1,6 +1,6 @@
+-- Clauses by their numbers, given and derived.
 use Rattle.std.proofs.Common.{◌≡◌, ℕ, ◌+◌, ◌-◌, ◌<◌, ◌≤◌, Bool, true, false, List, [], ◌∷◌, length, get_or, take, refl, suc, zero, ap, sym, ◌∙◌, subst, arith, inl, inr, ◌⊎◌, map, length-append}
 use Rattle.std.proofs.Math.Seq.{get_or-append_right}
-use Rattle.std.proofs.Math.ListN.{get_or-append}
 use Rattle.std.proofs.lemmas.List.{get_or-take, take-map, get_or-map, get_or_past, length-take}
 use Rattle.pe_cnf.specs.Clause.{clause_at, IsBelow, AllBelow, clause_value, Satisfies}
 use Rattle.pe_refute.specs.Chain.{clause_of, all_clauses}
@@ -16,10 +16,6 @@ length-map (d ∷ chain) = ap suc (length-map chain)
 
 pub length-all : (given : List (List ℕ)) (chain : List Derived) → length (all_clauses given chain) ≡ length given + length chain
 length-all given chain = length-append given (map clause_of chain) ∙ ap (λ n. length given + n) (length-map chain)
-
--- a given clause has its number
-pub given_at : (given : List (List ℕ)) (chain : List Derived) (id : ℕ) → id < length given → clause_at (all_clauses given chain) id ≡ clause_at given id
-given_at given chain id h = get_or-append given (map clause_of chain) [] id h
 
 -- and a derived one its number behind those given
 pub derived_at : (given : List (List ℕ)) (chain : List Derived) (id : ℕ) (d : Derived) → length given ≤ id → id < length given + length chain →

@@ -1,4 +1,5 @@
-use Rattle.std.proofs.Common.{◌≡◌, ◌≢◌, ℕ, ◌+◌, ◌-◌, ◌<◌, ◌%◌, ◌==◌, ◌||◌, Bool, true, false, Option, None, Some, List, [], ◌∷◌, length, get_or, take, refl, ap, sym, ◌∙◌, subst, arith, eq-eqb, inl, inr, zero, suc, ◌⊎◌, not}
+-- What a look at a clause sees.
+use Rattle.std.proofs.Common.{◌≡◌, ◌≢◌, ℕ, ◌+◌, ◌<◌, ◌==◌, ◌||◌, Bool, true, false, Option, None, Some, List, [], ◌∷◌, length, get_or, take, refl, ap, sym, ◌∙◌, subst, arith, eq-eqb, inl, inr, zero, suc, ◌⊎◌, not}
 use Rattle.std.proofs.lemmas.List.Folds.{list_any_more}
 use Rattle.std.proofs.lemmas.Bool.{eqb-true}
 use Rattle.std.proofs.lemmas.Bool.Decides.{eqb_tells}
@@ -11,13 +12,6 @@ use Rattle.pe_refute.specs.declared.follow.Effect.TheVariants.{Neither}
 
 pub complement_below : (l n : ℕ) → var_of l < n → var_of (complement_of l) < n
 complement_below l n h = rw (var_of-complement_of l) h
-
-pub complement_twice : (l : ℕ) → complement_of (complement_of l) ≡ l
-complement_twice l =
-    elim (eqb_tells (l % 2) 1) [
-      | inl t ↦ let even : (l - 1) % 2 ≡ 0 = omega arith in rw (t.0, even) (omega arith)
-      | inr f ↦ let odd : (l + 1) % 2 ≡ 1 = omega arith in rw (f.0, odd) (omega arith)
-    ]
 
 pub has_more : (c : List ℕ) (i m : ℕ) → i < length c → has (take (i + 1) c) m ≡ (has (take i c) m || (get_or c i 0 == m))
 has_more c i m h = list_any_more (λ x. x == m) c i 0 h

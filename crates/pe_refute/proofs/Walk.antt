@@ -1,3 +1,4 @@
+-- Steps of a walk along hints.
 use Rattle.std.proofs.Common.{◌≡◌, ℕ, ◌+◌, ◌<◌, ◌≤◌, ◌==◌, ◌||◌, ◌↔◌, Bool, true, false, List, [], ◌∷◌, length, get_or, drop, add-one, length-drop, refl, ap, sym, ◌∙◌, subst, arith}
 use Rattle.std.proofs.Math.Seq.{drop-cons}
 use Rattle.pe_graph.specs.Literals.{complement_of}
@@ -6,6 +7,7 @@ use Rattle.pe_refute.specs.Follow.{learned, IsConflict, IsUnit, Gives, Propagate
 use Rattle.pe_refute.specs.declared.follow.Effect.TheVariants.{Neither}
 use Rattle.pe_refute.proofs.Sight.{unit_is}
 
+-- the same is known
 abbrev pub Same : (ℕ → Bool) → (ℕ → Bool) → Type 0
 Same j k = (l : ℕ) → j l ≡ k l
 
@@ -65,12 +67,6 @@ pub stops_answer : {F : Type 0} (cs : List (List ℕ)) (k : ℕ → Bool) (hints
     F ↔ Propagates cs k (drop i hints) → i < length hints → get_or hints i 0 ≡ h → c ≡ clause_at cs h → Gives k c Neither → F → ⊥
 stops_answer cs k hints c i h same lt e f s p =
     neither_stops cs k h (drop (i + 1) hints) (subst (λ d. Gives k d Neither) f s) (subst (λ d. Propagates cs k d) (drop_is hints i h lt e) (same.0 p))
-
--- the answer at a hint that no clause has
-pub past_answer : {F : Type 0} (cs : List (List ℕ)) (k : ℕ → Bool) (hints : List ℕ) (i h : ℕ) →
-    F ↔ Propagates cs k (drop i hints) → i < length hints → get_or hints i 0 ≡ h → length cs ≤ h → F → ⊥
-past_answer cs k hints i h same lt e le p =
-    past_stops cs k h (drop (i + 1) hints) le (subst (λ d. Propagates cs k d) (drop_is hints i h lt e) (same.0 p))
 
 -- the answer at a conflict
 pub conflict_answer : {F : Type 0} (cs : List (List ℕ)) (k : ℕ → Bool) (hints c : List ℕ) (i h : ℕ) →
