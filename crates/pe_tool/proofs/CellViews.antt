@@ -10,12 +10,12 @@ use Rattle.std.proofs.lemmas.Bool.{eqb-true, eq-eqb, le-leb, leb-true}
 use Rattle.std.proofs.lemmas.List.{length-map}
 use Rattle.std.proofs.lemmas.List.Folds.{list_all-map}
 use Rattle.pe_base.specs.Names.{has_name, are_distinct}
-use Rattle.pe_liberty_read.specs.declared.library.Value.{Value}
-use Rattle.pe_liberty_read.specs.declared.library.Library.{Library}
-use Rattle.pe_liberty_read.specs.declared.library.Statement.{Statement}
-use Rattle.pe_liberty_read.specs.declared.groups.Group as code
-use Rattle.pe_liberty_read.specs.Groups.{bytes_of, Group, groups, attributes}
-use Rattle.pe_liberty_read.specs.Looking.{first_of, is_among, view}
+use Rattle.pe_liberty_plain.specs.declared.library.Value.{Value}
+use Rattle.pe_liberty_plain.specs.declared.library.Library.{Library}
+use Rattle.pe_liberty_plain.specs.declared.library.Statement.{Statement}
+use Rattle.pe_liberty_plain.specs.declared.groups.Group as code
+use Rattle.pe_liberty_plain.specs.Groups.{bytes_of, Group, groups, attributes}
+use Rattle.pe_liberty_plain.specs.Looking.{first_of, is_among, view}
 use Rattle.pe_tool.specs.declared.function.Sum.{Sum}
 use Rattle.pe_tool.specs.declared.cell.CellOutput.{CellOutput}
 use Rattle.pe_tool.specs.declared.cell.CellView.{CellView}

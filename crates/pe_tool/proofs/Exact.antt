@@ -1,13 +1,13 @@
 -- The five texts give one design at most, and one answer.
 use Rattle.std.proofs.Common.{◌≡◌, ℕ, ◌<◌, ◌≤◌, List, [], ◌∷◌, refl, sym, ap, ◌∙◌, subst, arith, Result, Ok, Err}
 use Rattle.pe_base.specs.declared.text.Texts.{Texts}
-use Rattle.pe_verilog_read.specs.declared.rtl.RtlModule.{RtlModule}
-use Rattle.pe_verilog_read.specs.Rtl.{IsRtl}
-use Rattle.pe_verilog_read.specs.declared.net.NetModule.{NetModule}
-use Rattle.pe_verilog_read.specs.declared.net.Instance.{Instance}
-use Rattle.pe_verilog_read.specs.Net.{IsNet, instances}
-use Rattle.pe_liberty_read.specs.declared.library.Library.{Library}
-use Rattle.pe_liberty_read.specs.Spelling.{IsLibrary}
+use Rattle.pe_verilog_plain.specs.declared.rtl.RtlModule.{RtlModule}
+use Rattle.pe_verilog_plain.specs.Rtl.{IsRtl}
+use Rattle.pe_verilog_plain.specs.declared.net.NetModule.{NetModule}
+use Rattle.pe_verilog_plain.specs.declared.net.Instance.{Instance}
+use Rattle.pe_verilog_plain.specs.Net.{IsNet, instances}
+use Rattle.pe_liberty_plain.specs.declared.library.Library.{Library}
+use Rattle.pe_liberty_plain.specs.Spelling.{IsLibrary}
 use Rattle.pe_tool.specs.declared.upf.Command.{Command}
 use Rattle.pe_tool.specs.declared.intent.PowerIntent.{PowerIntent}
 use Rattle.pe_tool.specs.declared.cell.CellView.{CellView}

@@ -7,8 +7,8 @@ use Rattle.std.proofs.lemmas.List.Sums.{sum_by-cons, sum_by-append}
 use Rattle.pe_base.specs.declared.value.Val.{Val}
 use Rattle.pe_base.specs.declared.value.Val.TheVariants.{Zero, One, Corrupt}
 use Rattle.pe_base.specs.Values.{Refines}
-use Rattle.pe_verilog_read.specs.Ports.{output_names}
-use Rattle.pe_verilog_read.specs.Rtl.{is_rtl_form}
+use Rattle.pe_verilog_plain.specs.Ports.{output_names}
+use Rattle.pe_verilog_plain.specs.Rtl.{is_rtl_form}
 use Rattle.pe_tool.specs.declared.design.Design.{Design}
 use Rattle.pe_tool.specs.declared.intent.Row.{Row}
 use Rattle.pe_tool.specs.Fit.{is_fit}

@@ -7,10 +7,10 @@ use Rattle.std.proofs.lemmas.List.Folds.{list_any-append}
 use Rattle.pe_base.specs.declared.value.Val.{Val}
 use Rattle.pe_base.specs.declared.value.Val.TheVariants.{Corrupt}
 use Rattle.pe_base.specs.Names.{has_name, place_of}
-use Rattle.pe_verilog_read.specs.declared.rtl.Direction.{Direction}
-use Rattle.pe_verilog_read.specs.declared.rtl.Direction.TheVariants.{Input, Output}
-use Rattle.pe_verilog_read.specs.declared.rtl.Port.{Port}
-use Rattle.pe_verilog_read.specs.Ports.{input_names, output_names, port_names}
+use Rattle.pe_verilog_plain.specs.declared.rtl.Direction.{Direction}
+use Rattle.pe_verilog_plain.specs.declared.rtl.Direction.TheVariants.{Input, Output}
+use Rattle.pe_verilog_plain.specs.declared.rtl.Port.{Port}
+use Rattle.pe_verilog_plain.specs.Ports.{input_names, output_names, port_names}
 use Rattle.pe_tool.specs.RtlMeaning.{name_at, value_in}
 
 pub and_left : (a b : Bool) → (a && b) ≡ true → a ≡ true

@@ -8,8 +8,8 @@ use Rattle.pe_base.specs.declared.value.Val.{Val}
 use Rattle.pe_base.specs.declared.value.Val.TheVariants.{Corrupt}
 use Rattle.pe_base.specs.Values.{known_of}
 use Rattle.pe_base.specs.Names.{has_name, place_of, all_among}
-use Rattle.pe_verilog_read.specs.Ports.{input_names, output_names, port_names}
-use Rattle.pe_verilog_read.specs.Net.{net_nets, net_wires, pins}
+use Rattle.pe_verilog_plain.specs.Ports.{input_names, output_names, port_names}
+use Rattle.pe_verilog_plain.specs.Net.{net_nets, net_wires, pins}
 use Rattle.pe_tool.specs.declared.cell.CellOutput.{CellOutput}
 use Rattle.pe_tool.specs.declared.design.Design.{Design}
 use Rattle.pe_tool.specs.Cell.{read_pins, all_pins}

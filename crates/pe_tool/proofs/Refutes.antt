@@ -3,8 +3,8 @@ use Rattle.std.proofs.Common.{◌≡◌, ℕ, Bool, true, false, cond, List, sym
 use Rattle.pe_base.specs.declared.value.Val.{Val}
 use Rattle.pe_base.specs.declared.value.Val.TheVariants.{Corrupt}
 use Rattle.pe_base.specs.Names.{has_name}
-use Rattle.pe_verilog_read.specs.Rtl.{rtl_nets}
-use Rattle.pe_verilog_read.specs.Net.{net_nets}
+use Rattle.pe_verilog_plain.specs.Rtl.{rtl_nets}
+use Rattle.pe_verilog_plain.specs.Net.{net_nets}
 use Rattle.pe_tool.specs.declared.design.Design.{Design}
 use Rattle.pe_tool.specs.Rows.{domain_on}
 use Rattle.pe_tool.specs.RtlMeaning.{rtl_value}

@@ -7,12 +7,12 @@ use Rattle.std.proofs.lemmas.List.{ext_get_or, get_or-map, length-map}
 use Rattle.pe_base.specs.declared.value.Val.{Val}
 use Rattle.pe_base.specs.declared.value.Val.TheVariants.{Corrupt}
 use Rattle.pe_base.specs.Names.{has_name, place_of, are_distinct, all_among}
-use Rattle.pe_verilog_read.specs.declared.rtl.Expr.{Expr}
-use Rattle.pe_verilog_read.specs.declared.rtl.Expr.TheVariants.{Net, And}
-use Rattle.pe_verilog_read.specs.declared.rtl.Assign.{Assign}
-use Rattle.pe_verilog_read.specs.declared.rtl.RtlModule.{RtlModule}
-use Rattle.pe_verilog_read.specs.Ports.{input_names, port_names}
-use Rattle.pe_verilog_read.specs.Rtl.{assigns, rtl_nets, rtl_wires, rtl_driven, targets, reads_inputs, operands, is_rtl_form}
+use Rattle.pe_verilog_plain.specs.declared.rtl.Expr.{Expr}
+use Rattle.pe_verilog_plain.specs.declared.rtl.Expr.TheVariants.{Net, And}
+use Rattle.pe_verilog_plain.specs.declared.rtl.Assign.{Assign}
+use Rattle.pe_verilog_plain.specs.declared.rtl.RtlModule.{RtlModule}
+use Rattle.pe_verilog_plain.specs.Ports.{input_names, port_names}
+use Rattle.pe_verilog_plain.specs.Rtl.{assigns, rtl_nets, rtl_wires, rtl_driven, targets, reads_inputs, operands, is_rtl_form}
 use Rattle.pe_tool.specs.RtlMeaning.{name_at, value_in, expr_value, given, assigned, assignment_to, driver_of, driven, IsRtlSettled, input_value, rtl_value, rtl_values}
 use Rattle.pe_tool.proofs.NameFacts.{and_left, and_right, place_below, name_at_place, value_in-map, has_left, input_is_port}
 

@@ -2,13 +2,13 @@
 use Rattle.std.proofs.Common.{◌≡◌, ℕ, true, false, List, refl, sym, ap, ◌∙◌, subst, Result, Ok, Err, IfOk}
 use Rattle.std.specs.Prelude.{IsErrOf}
 use Rattle.pe_base.specs.declared.text.Texts.{Texts}
-use Rattle.pe_verilog_read.specs.declared.rtl.RtlModule.{RtlModule}
-use Rattle.pe_verilog_read.specs.Rtl.{IsRtl}
-use Rattle.pe_liberty_read.specs.declared.library.Library.{Library}
+use Rattle.pe_verilog_plain.specs.declared.rtl.RtlModule.{RtlModule}
+use Rattle.pe_verilog_plain.specs.Rtl.{IsRtl}
+use Rattle.pe_liberty_plain.specs.declared.library.Library.{Library}
 use Rattle.pe_tool.specs.declared.intent.PowerIntent.{PowerIntent}
 use Rattle.pe_tool.specs.declared.question.Part.TheVariants.{Upf}
-use Rattle.pe_verilog_read.specs.declared.net.NetModule.{NetModule}
-use Rattle.pe_verilog_read.specs.Net.{IsNet, instances}
+use Rattle.pe_verilog_plain.specs.declared.net.NetModule.{NetModule}
+use Rattle.pe_verilog_plain.specs.Net.{IsNet, instances}
 use Rattle.pe_tool.specs.declared.cell.CellView.{CellView}
 use Rattle.pe_tool.specs.declared.design.Design.{Design}
 use Rattle.pe_tool.specs.declared.fault.FormFault.{FormFault}

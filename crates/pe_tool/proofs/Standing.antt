@@ -3,14 +3,14 @@ use Rattle.std.proofs.Common.{◌≡◌, ◌≢◌, ℕ, ◌≤◌, false, List,
 use Rattle.pe_base.specs.declared.text.Texts.{Texts}
 use Rattle.pe_base.specs.Walk.{Start, bad, IsCut}
 use Rattle.pe_base.proofs.Walks.{reaches_start, cut_bad}
-use Rattle.pe_verilog_read.specs.declared.rtl.RtlModule.{RtlModule}
-use Rattle.pe_verilog_read.specs.declared.net.NetModule.{NetModule}
-use Rattle.pe_verilog_read.specs.Rtl.{IsRtl, rtl_tokens}
-use Rattle.pe_verilog_read.specs.Net.{IsNet, net_tokens}
-use Rattle.pe_verilog_read.specs.Tokens.{verilog_start}
-use Rattle.pe_liberty_read.specs.declared.library.Library.{Library}
-use Rattle.pe_liberty_read.specs.Spelling.{IsLibrary, library_tokens}
-use Rattle.pe_liberty_read.specs.Tokens.{liberty_start}
+use Rattle.pe_verilog_plain.specs.declared.rtl.RtlModule.{RtlModule}
+use Rattle.pe_verilog_plain.specs.declared.net.NetModule.{NetModule}
+use Rattle.pe_verilog_plain.specs.Rtl.{IsRtl, rtl_tokens}
+use Rattle.pe_verilog_plain.specs.Net.{IsNet, net_tokens}
+use Rattle.pe_verilog_plain.specs.Tokens.{verilog_start}
+use Rattle.pe_liberty_plain.specs.declared.library.Library.{Library}
+use Rattle.pe_liberty_plain.specs.Spelling.{IsLibrary, library_tokens}
+use Rattle.pe_liberty_plain.specs.Tokens.{liberty_start}
 use Rattle.pe_tool.specs.declared.upf.Command.{Command}
 use Rattle.pe_tool.specs.declared.intent.PowerIntent.{PowerIntent}
 use Rattle.pe_tool.specs.declared.design.Design.{Design}

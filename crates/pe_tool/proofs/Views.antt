@@ -1,11 +1,11 @@
 -- The views of the cells that are used, as far as a loop over the netlist's items has come.
 use Rattle.std.proofs.Common.{◌≡◌, ℕ, ◌+◌, ◌<◌, List, [], ◌∷◌, ◌++◌, length, drop, get_or, refl, sym, ap, ◌∙◌, subst, append_assoc, append-nil, Err}
 use Rattle.std.proofs.lemmas.List.{drop_more}
-use Rattle.pe_verilog_read.specs.declared.net.Instance.{Instance}
-use Rattle.pe_verilog_read.specs.declared.net.NetItem.{NetItem}
-use Rattle.pe_verilog_read.specs.declared.net.NetItem.TheVariants as item
-use Rattle.pe_verilog_read.specs.Net.{instances}
-use Rattle.pe_liberty_read.specs.declared.library.Library.{Library}
+use Rattle.pe_verilog_plain.specs.declared.net.Instance.{Instance}
+use Rattle.pe_verilog_plain.specs.declared.net.NetItem.{NetItem}
+use Rattle.pe_verilog_plain.specs.declared.net.NetItem.TheVariants as item
+use Rattle.pe_verilog_plain.specs.Net.{instances}
+use Rattle.pe_liberty_plain.specs.declared.library.Library.{Library}
 use Rattle.pe_tool.specs.declared.cell.CellView.{CellView}
 use Rattle.pe_tool.specs.declared.fault.FormFault.{FormFault}
 use Rattle.pe_tool.specs.declared.fault.FormFault.TheVariants.{Memory, NotBuilt}

@@ -4,10 +4,10 @@ use Rattle.std.specs.Prelude.{◌≡◌, ℕ, ◌+◌, ◌≤◌, Bool, true, fa
 use Rattle.std.specs.List.{list_all, list_any, AllZip, filter}
 use Rattle.std.specs.Str.{bytes_eq}
 use Rattle.pe_base.specs.Names.{has_name, are_distinct}
-use Rattle.pe_liberty_read.specs.declared.library.Value.{Value}
-use Rattle.pe_liberty_read.specs.declared.library.Statement.{Statement}
-use Rattle.pe_liberty_read.specs.declared.library.Library.{Library}
-use Rattle.pe_liberty_read.specs.Groups.{bytes_of, Group, groups, attributes, words}
+use Rattle.pe_liberty_plain.specs.declared.library.Value.{Value}
+use Rattle.pe_liberty_plain.specs.declared.library.Statement.{Statement}
+use Rattle.pe_liberty_plain.specs.declared.library.Library.{Library}
+use Rattle.pe_liberty_plain.specs.Groups.{bytes_of, Group, groups, attributes, words}
 use Rattle.pe_tool.specs.declared.cell.CellOutput.{CellOutput}
 use Rattle.pe_tool.specs.declared.cell.CellView.{CellView}
 use Rattle.pe_tool.specs.declared.fault.FormFault.{FormFault}

@@ -2,8 +2,8 @@
 use Rattle.std.specs.Prelude.{◌≡◌, ℕ, ◌+◌, ◌==◌, leb, Bool, ◌&&◌, List, length, [], ◌∷◌, codes, Some, Result, Ok, Err}
 use Rattle.std.specs.List.{list_all, AllZip}
 use Rattle.pe_base.specs.Names.{are_distinct}
-use Rattle.pe_liberty_read.specs.declared.library.Statement.{Statement}
-use Rattle.pe_liberty_read.specs.Groups.{Group, groups}
+use Rattle.pe_liberty_plain.specs.declared.library.Statement.{Statement}
+use Rattle.pe_liberty_plain.specs.Groups.{Group, groups}
 use Rattle.pe_tool.specs.declared.function.Sum.{Sum}
 use Rattle.pe_tool.specs.declared.cell.CellView.{CellView}
 use Rattle.pe_tool.specs.declared.fault.FormFault.{FormFault}

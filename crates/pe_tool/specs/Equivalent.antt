@@ -5,12 +5,12 @@ use Rattle.pe_base.specs.declared.value.Val.{Val}
 use Rattle.pe_base.specs.declared.text.Texts.{Texts}
 use Rattle.pe_base.specs.Values.{Refines}
 use Rattle.pe_base.specs.Names.{has_name}
-use Rattle.pe_verilog_read.specs.declared.rtl.RtlModule.{RtlModule}
-use Rattle.pe_verilog_read.specs.Ports.{input_names, output_names, port_names}
-use Rattle.pe_verilog_read.specs.Rtl.{IsRtl, rtl_nets}
-use Rattle.pe_verilog_read.specs.Net.{IsNet, instances, net_nets}
-use Rattle.pe_liberty_read.specs.declared.library.Library.{Library}
-use Rattle.pe_liberty_read.specs.Spelling.{IsLibrary}
+use Rattle.pe_verilog_plain.specs.declared.rtl.RtlModule.{RtlModule}
+use Rattle.pe_verilog_plain.specs.Ports.{input_names, output_names, port_names}
+use Rattle.pe_verilog_plain.specs.Rtl.{IsRtl, rtl_nets}
+use Rattle.pe_verilog_plain.specs.Net.{IsNet, instances, net_nets}
+use Rattle.pe_liberty_plain.specs.declared.library.Library.{Library}
+use Rattle.pe_liberty_plain.specs.Spelling.{IsLibrary}
 use Rattle.pe_tool.specs.declared.upf.Command.{Command}
 use Rattle.pe_tool.specs.declared.intent.PowerIntent.{PowerIntent}
 use Rattle.pe_tool.specs.declared.intent.Row.{Row}

@@ -3,10 +3,10 @@ use Rattle.std.specs.Prelude.{◌≡◌, ℕ, ◌+◌, ◌==◌, Bool, false, �
 use Rattle.std.specs.List.{list_all, flat_map, AllZip}
 use Rattle.std.specs.Str.{bytes_eq}
 use Rattle.pe_base.specs.Names.{has_name, are_distinct, all_among}
-use Rattle.pe_verilog_read.specs.declared.net.Instance.{Instance}
-use Rattle.pe_verilog_read.specs.Ports.{input_names, output_names}
-use Rattle.pe_verilog_read.specs.Net.{net_wires, pins}
-use Rattle.pe_liberty_read.specs.declared.library.Library.{Library}
+use Rattle.pe_verilog_plain.specs.declared.net.Instance.{Instance}
+use Rattle.pe_verilog_plain.specs.Ports.{input_names, output_names}
+use Rattle.pe_verilog_plain.specs.Net.{net_wires, pins}
+use Rattle.pe_liberty_plain.specs.declared.library.Library.{Library}
 use Rattle.pe_tool.specs.declared.cell.CellView.{CellView}
 use Rattle.pe_tool.specs.declared.design.Design.{Design}
 use Rattle.pe_tool.specs.declared.fault.FormFault.{FormFault}

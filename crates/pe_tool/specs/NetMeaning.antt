@@ -7,10 +7,10 @@ use Rattle.pe_base.specs.declared.value.Val.{Val}
 use Rattle.pe_base.specs.declared.value.Val.TheVariants.{Zero, One, Corrupt}
 use Rattle.pe_base.specs.Values.{known_of, exact_extension}
 use Rattle.pe_base.specs.Names.{has_name, place_of}
-use Rattle.pe_verilog_read.specs.declared.net.Connection.{Connection}
-use Rattle.pe_verilog_read.specs.declared.net.Instance.{Instance}
-use Rattle.pe_verilog_read.specs.Net.{instances, net_nets}
-use Rattle.pe_verilog_read.specs.Ports.{input_names}
+use Rattle.pe_verilog_plain.specs.declared.net.Connection.{Connection}
+use Rattle.pe_verilog_plain.specs.declared.net.Instance.{Instance}
+use Rattle.pe_verilog_plain.specs.Net.{instances, net_nets}
+use Rattle.pe_verilog_plain.specs.Ports.{input_names}
 use Rattle.pe_tool.specs.declared.cell.CellOutput.{CellOutput}
 use Rattle.pe_tool.specs.declared.cell.CellView.{CellView}
 use Rattle.pe_tool.specs.declared.design.Design.{Design}

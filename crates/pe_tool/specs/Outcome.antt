@@ -1,11 +1,11 @@
 -- What a check of five texts answers, and where.
 use Rattle.std.specs.Prelude.{◌≡◌, ℕ, ◌<◌, ◌≤◌, length, min, Result, Ok, Err}
 use Rattle.pe_base.specs.declared.text.Texts.{Texts}
-use Rattle.pe_verilog_read.specs.declared.rtl.RtlModule.{RtlModule}
-use Rattle.pe_verilog_read.specs.Ports.{input_names}
-use Rattle.pe_verilog_read.specs.Rtl.{IsRtl}
-use Rattle.pe_liberty_read.specs.declared.library.Library.{Library}
-use Rattle.pe_liberty_read.specs.Spelling.{IsLibrary}
+use Rattle.pe_verilog_plain.specs.declared.rtl.RtlModule.{RtlModule}
+use Rattle.pe_verilog_plain.specs.Ports.{input_names}
+use Rattle.pe_verilog_plain.specs.Rtl.{IsRtl}
+use Rattle.pe_liberty_plain.specs.declared.library.Library.{Library}
+use Rattle.pe_liberty_plain.specs.Spelling.{IsLibrary}
 use Rattle.pe_tool.specs.declared.intent.PowerIntent.{PowerIntent}
 use Rattle.pe_tool.specs.declared.design.Design.{Design}
 use Rattle.pe_tool.specs.declared.question.Plain.{Plain}

@@ -4,9 +4,9 @@ use Rattle.std.specs.List.{flat_map, enumerate_from}
 use Rattle.pe_base.specs.declared.value.Val.{Val}
 use Rattle.pe_base.specs.declared.value.Val.TheVariants.{Zero, One, Corrupt}
 use Rattle.pe_base.specs.declared.text.Step.TheVariants.{Start}
-use Rattle.pe_verilog_read.specs.Ports.{input_names, output_names}
-use Rattle.pe_verilog_read.specs.Rtl.{rtl_nets}
-use Rattle.pe_verilog_read.specs.Net.{net_nets}
+use Rattle.pe_verilog_plain.specs.Ports.{input_names, output_names}
+use Rattle.pe_verilog_plain.specs.Rtl.{rtl_nets}
+use Rattle.pe_verilog_plain.specs.Net.{net_nets}
 use Rattle.pe_tool.specs.declared.intent.Row.{Row}
 use Rattle.pe_tool.specs.declared.design.Design.{Design}
 use Rattle.pe_tool.specs.declared.question.Question.{Question}

@@ -5,7 +5,7 @@ use Rattle.pe_base.specs.declared.value.Val.{Val}
 use Rattle.pe_base.specs.declared.value.Val.TheVariants.{Zero, One, Corrupt}
 use Rattle.pe_base.specs.declared.text.Step.{Step}
 use Rattle.pe_base.specs.declared.text.Step.TheVariants.{Start, Pair}
-use Rattle.pe_verilog_read.specs.Ports.{input_names, output_names}
+use Rattle.pe_verilog_plain.specs.Ports.{input_names, output_names}
 use Rattle.pe_tool.specs.declared.design.Design.{Design}
 use Rattle.pe_tool.specs.declared.question.Question.{Question}
 use Rattle.pe_tool.specs.declared.question.Point.{Point}

@@ -7,12 +7,12 @@ use Rattle.pe_base.specs.Values.{known_of}
 use Rattle.pe_base.specs.Operators.{and_of}
 use Rattle.pe_base.specs.Names.{has_name, place_of}
 use Rattle.std.specs.Str.{bytes_eq}
-use Rattle.pe_verilog_read.specs.declared.rtl.Expr.{Expr}
-use Rattle.pe_verilog_read.specs.declared.rtl.Expr.TheVariants.{Net, And}
-use Rattle.pe_verilog_read.specs.declared.rtl.Assign.{Assign}
-use Rattle.pe_verilog_read.specs.declared.rtl.RtlModule.{RtlModule}
-use Rattle.pe_verilog_read.specs.Ports.{input_names}
-use Rattle.pe_verilog_read.specs.Rtl.{assigns, rtl_nets}
+use Rattle.pe_verilog_plain.specs.declared.rtl.Expr.{Expr}
+use Rattle.pe_verilog_plain.specs.declared.rtl.Expr.TheVariants.{Net, And}
+use Rattle.pe_verilog_plain.specs.declared.rtl.Assign.{Assign}
+use Rattle.pe_verilog_plain.specs.declared.rtl.RtlModule.{RtlModule}
+use Rattle.pe_verilog_plain.specs.Ports.{input_names}
+use Rattle.pe_verilog_plain.specs.Rtl.{assigns, rtl_nets}
 
 -- the name at a place
 abbrev pub name_at : List (List ℕ) → ℕ → List ℕ

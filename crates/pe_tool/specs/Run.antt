@@ -11,9 +11,9 @@ use Rattle.pe_tool.specs.declared.question.Fault.{Fault}
 use Rattle.pe_tool.specs.declared.question.CheckFault.TheVariants.{Refused}
 use Rattle.pe_base.specs.declared.value.Val.{Val}
 use Rattle.pe_base.specs.Values.{Refines}
-use Rattle.pe_verilog_read.specs.Ports.{input_names, output_names}
-use Rattle.pe_verilog_read.specs.Rtl.{rtl_nets}
-use Rattle.pe_verilog_read.specs.Net.{net_nets}
+use Rattle.pe_verilog_plain.specs.Ports.{input_names, output_names}
+use Rattle.pe_verilog_plain.specs.Rtl.{rtl_nets}
+use Rattle.pe_verilog_plain.specs.Net.{net_nets}
 use Rattle.pe_tool.specs.declared.intent.Row.{Row}
 use Rattle.pe_tool.specs.declared.design.Design.{Design}
 use Rattle.pe_tool.specs.Rows.{row_holds, domain_on}

@@ -10,7 +10,7 @@ use crate::net_value::{extended, net_value, on_at};
 use crate::ports::{input_count, is_net_net, is_rtl_net};
 use crate::rtl_value::rtl_value;
 use pe_base::{Val, Want, refines};
-use pe_verilog_read::Direction;
+use pe_verilog_plain::Direction;
 use sqlite_items::Items;
 use std::alloc::Global;
 

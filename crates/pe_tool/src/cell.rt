@@ -1,7 +1,7 @@
 //! A cell of the library, as far as its values need it.
 
 ghost use Rattle.std.specs.Prelude.{◌≡◌, ℕ, List, IfOk};
-ghost use Rattle.pe_liberty_read.specs.declared.library.Library.{Library};
+ghost use Rattle.pe_liberty_plain.specs.declared.library.Library.{Library};
 ghost use Rattle.pe_tool.specs.declared.cell.CellView.{CellView};
 ghost use Rattle.pe_tool.specs.Cell.{IsView, IsCell, IsCellAnswer};
 
@@ -15,7 +15,7 @@ use self::pin::pins_of;
 use crate::fault::FormFault;
 use crate::function::Sum;
 use pe_base::Name;
-use pe_liberty_read::{Library, Statement, groups_of};
+use pe_liberty_plain::{Library, Statement, groups_of};
 use sqlite_items::Items;
 use std::alloc::Global;
 

@@ -2,12 +2,12 @@
 
 ghost use Rattle.std.specs.Prelude.{◌≡◌, ◌≤◌, not, true, false, IfOk, IfErr, IsErrOf, Result, Err, length};
 ghost use Rattle.pe_base.specs.Names.{has_name};
-ghost use Rattle.pe_verilog_read.specs.Ports.{port_names};
+ghost use Rattle.pe_verilog_plain.specs.Ports.{port_names};
 ghost use Rattle.pe_tool.specs.declared.intent.PowerIntent.{PowerIntent};
 ghost use Rattle.pe_tool.specs.Intent.{IsIntentAnswer};
 ghost use Rattle.pe_base.specs.declared.text.Texts.{Texts};
-ghost use Rattle.pe_verilog_read.specs.Rtl.{IsRtl};
-ghost use Rattle.pe_liberty_read.specs.Spelling.{IsLibrary};
+ghost use Rattle.pe_verilog_plain.specs.Rtl.{IsRtl};
+ghost use Rattle.pe_liberty_plain.specs.Spelling.{IsLibrary};
 ghost use Rattle.pe_tool.specs.declared.question.Plain.{Plain};
 ghost use Rattle.pe_tool.specs.declared.question.CheckFault.{CheckFault};
 ghost use Rattle.pe_tool.specs.declared.design.Design.{Design};
@@ -28,8 +28,8 @@ use crate::ports::input_count;
 use crate::question::{CheckFault, Fault, Part, Plain, questions};
 use crate::upf::{one_upf, read_upf};
 use pe_base::{Texts, Want};
-use pe_liberty_read::{Library, one_library, read_library};
-use pe_verilog_read::{Port, RtlModule, one_net, one_rtl, read_net, read_rtl};
+use pe_liberty_plain::{Library, one_library, read_library};
+use pe_verilog_plain::{Port, RtlModule, one_net, one_rtl, read_net, read_rtl};
 use std::alloc::Global;
 
 // The RTL module of the texts.
@@ -39,8 +39,8 @@ fn rtl_of(alloc: Global, texts: &Texts) -> Result<RtlModule, CheckFault>
 {
     match read_rtl(alloc, texts.rtl.as_slice()) {
         Ok(module) => Ok(module),
-        Err(pe_verilog_read::ReadFault::Memory) => Err(CheckFault::Memory),
-        Err(pe_verilog_read::ReadFault::NotBuilt) => {
+        Err(pe_verilog_plain::ReadFault::Memory) => Err(CheckFault::Memory),
+        Err(pe_verilog_plain::ReadFault::NotBuilt) => {
             Err(CheckFault::Refused(Part::Rtl, Fault::NotBuilt))
         }
     }
@@ -112,8 +112,8 @@ fn library_of(alloc: Global, texts: &Texts) -> Result<Library, CheckFault>
 {
     match read_library(alloc, texts.lib.as_slice()) {
         Ok(library) => Ok(library),
-        Err(pe_liberty_read::ReadFault::Memory) => Err(CheckFault::Memory),
-        Err(pe_liberty_read::ReadFault::NotBuilt) => {
+        Err(pe_liberty_plain::ReadFault::Memory) => Err(CheckFault::Memory),
+        Err(pe_liberty_plain::ReadFault::NotBuilt) => {
             Err(CheckFault::Refused(Part::Lib, Fault::NotBuilt))
         }
     }
@@ -133,8 +133,8 @@ fn netlist_of(
 {
     let net = match read_net(alloc, text) {
         Ok(net) => net,
-        Err(pe_verilog_read::ReadFault::Memory) => return Err(FormFault::Memory),
-        Err(pe_verilog_read::ReadFault::NotBuilt) => return Err(FormFault::NotBuilt),
+        Err(pe_verilog_plain::ReadFault::Memory) => return Err(FormFault::Memory),
+        Err(pe_verilog_plain::ReadFault::NotBuilt) => return Err(FormFault::NotBuilt),
     };
     match views(alloc, library, net.items.as_slice()) {
         Err(fault) => Err(fault),

@@ -2,7 +2,7 @@
 
 use crate::cell::CellView;
 use crate::intent::PowerIntent;
-use pe_verilog_read::{NetModule, RtlModule};
+use pe_verilog_plain::{NetModule, RtlModule};
 use sqlite_items::Items;
 
 /// An RTL module with its power intent, and a netlist with the view of each cell instance, in text order.

@@ -2,9 +2,9 @@
 
 ghost use Rattle.std.specs.Prelude.{◌≡◌, ◌++◌, ◌∷◌, [], ◌==◌, ◌+◌, IfOk, MatchResult, List, length};
 ghost use Rattle.std.specs.List.{flat_map, list_all};
-ghost use Rattle.pe_verilog_read.specs.Ports.{input_names, output_names};
+ghost use Rattle.pe_verilog_plain.specs.Ports.{input_names, output_names};
 ghost use Rattle.pe_base.specs.Names.{HasSameNames};
-ghost use Rattle.pe_verilog_read.specs.Net.{instances, net_wires, pins};
+ghost use Rattle.pe_verilog_plain.specs.Net.{instances, net_wires, pins};
 ghost use Rattle.pe_tool.specs.declared.cell.CellView.{CellView};
 ghost use Rattle.pe_tool.specs.Cell.{read_pins, all_pins};
 ghost use Rattle.pe_tool.specs.NetMeaning.{net_on, make_use, uses, uses_of};
@@ -15,8 +15,8 @@ use crate::design::Design;
 use crate::fault::FormFault;
 use crate::net_value::{net_on, read_pins};
 use pe_base::{Name, NameSet, Want, all_among, are_distinct};
-use pe_liberty_read::Library;
-use pe_verilog_read::{Direction, Instance, NetItem, Port};
+use pe_liberty_plain::Library;
+use pe_verilog_plain::{Direction, Instance, NetItem, Port};
 use sqlite_items::Items;
 use std::alloc::Global;
 

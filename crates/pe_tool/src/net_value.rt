@@ -4,7 +4,7 @@ ghost use Rattle.std.specs.Prelude.{◌≡◌, ◌≤◌, ◌++◌, ◌∷◌, [
 ghost use Rattle.std.specs.Option.{option_copied};
 ghost use Rattle.pe_base.specs.declared.value.Val.{Val};
 ghost use Rattle.pe_base.specs.Values.{known_of, merge_over};
-ghost use Rattle.pe_verilog_read.specs.Net.{instances};
+ghost use Rattle.pe_verilog_plain.specs.Net.{instances};
 ghost use Rattle.pe_tool.specs.declared.design.Design.{Design};
 ghost use Rattle.pe_tool.specs.Function.{literal_holds, product_holds, sum_holds};
 ghost use Rattle.pe_tool.specs.Fit.{is_fit};
@@ -18,7 +18,7 @@ use crate::function::{Literal, Product, Sum};
 use crate::ports::{has_input, input_place};
 use crate::rtl_value::given_at;
 use pe_base::{Name, Val, Want, known, merge, place_of};
-use pe_verilog_read::{Connection, Instance, NetItem};
+use pe_verilog_plain::{Connection, Instance, NetItem};
 use sqlite_items::Items;
 use std::alloc::Global;
 

@@ -2,11 +2,11 @@
 
 ghost use Rattle.std.specs.Prelude.{◌≡◌, length};
 ghost use Rattle.pe_base.specs.Names.{has_name, place_of};
-ghost use Rattle.pe_verilog_read.specs.Ports.{input_names, port_names};
-ghost use Rattle.pe_verilog_read.specs.Rtl.{rtl_wires, rtl_nets};
-ghost use Rattle.pe_verilog_read.specs.Net.{net_wires, net_nets};
+ghost use Rattle.pe_verilog_plain.specs.Ports.{input_names, port_names};
+ghost use Rattle.pe_verilog_plain.specs.Rtl.{rtl_wires, rtl_nets};
+ghost use Rattle.pe_verilog_plain.specs.Net.{net_wires, net_nets};
 
-use pe_verilog_read::{Direction, NetItem, NetModule, Port, RtlItem, RtlModule};
+use pe_verilog_plain::{Direction, NetItem, NetModule, Port, RtlItem, RtlModule};
 
 // Whether some input has the name.
 pub(crate) fn has_input(ports: &[Port], name: &[u8]) -> bool

@@ -5,7 +5,7 @@ ghost use Rattle.pe_tool.specs.Questions.{row_questions, questions};
 
 use crate::design::Design;
 use pe_base::{Step, Want};
-use pe_verilog_read::Direction;
+use pe_verilog_plain::Direction;
 use sqlite_items::Items;
 use std::alloc::Global;
 use thiserror::Error;

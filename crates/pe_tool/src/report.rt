@@ -1,7 +1,7 @@
 //! What the program prints.
 
 ghost use Rattle.std.specs.Prelude.{◌≡◌, ◌≤◌, ◌++◌, IfOk, OnOk, length, string_bytes, count_by, is_some};
-ghost use Rattle.pe_verilog_read.specs.Ports.{input_names, output_names};
+ghost use Rattle.pe_verilog_plain.specs.Ports.{input_names, output_names};
 ghost use Rattle.pe_tool.specs.RtlMeaning.{name_at};
 ghost use Rattle.pe_tool.specs.Report.{two_words, on_word, bit_word, value_word, row_names, step_words, point_name, supply_lines, input_lines, sample, values_line, block, block_of, blocks, line_end, mismatched, verdict_line, counts_of, counts_line, report, part_word, fault_words, refusal, read_fault, usage, report_status};
 
@@ -9,7 +9,7 @@ use crate::answer::{net_output, rtl_output, split};
 use crate::design::Design;
 use crate::question::{Fault, Part, Plain, Point, Question};
 use pe_base::{Name, Step, Val, Want};
-use pe_verilog_read::{Direction, Port};
+use pe_verilog_plain::{Direction, Port};
 use sqlite_items::Items;
 use std::alloc::Global;
 

@@ -2,13 +2,13 @@
 
 ghost use Rattle.std.specs.Prelude.{◌≡◌, Bool, true, List, slice_index_or};
 ghost use Rattle.pe_base.specs.declared.value.Val.{Val};
-ghost use Rattle.pe_verilog_read.specs.declared.rtl.RtlModule.{RtlModule};
-ghost use Rattle.pe_verilog_read.specs.Rtl.{assigns, is_rtl_form};
+ghost use Rattle.pe_verilog_plain.specs.declared.rtl.RtlModule.{RtlModule};
+ghost use Rattle.pe_verilog_plain.specs.Rtl.{assigns, is_rtl_form};
 ghost use Rattle.pe_tool.specs.RtlMeaning.{given_at, input_value, expr_value, driven, assignment_to, rtl_value, rtl_values, IsRtlSettled};
 
 use crate::ports::{has_input, input_place};
 use pe_base::{Val, and, known};
-use pe_verilog_read::{Expr, RtlItem, RtlModule};
+use pe_verilog_plain::{Expr, RtlItem, RtlModule};
 
 /// The law of the RTL's settled maps: with the form that is built, for a domain that is on or off and all inputs, exactly
 /// one map is settled, the one that the inputs give.

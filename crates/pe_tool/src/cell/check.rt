@@ -11,7 +11,7 @@ use super::group::{are_plain, is_plain};
 use super::{CellOutput, CellView};
 use crate::function::{Product, Sum};
 use pe_base::{Name, NameSet, Want, are_distinct};
-use pe_liberty_read::{Group, Statement};
+use pe_liberty_plain::{Group, Statement};
 use sqlite_items::Items;
 use std::alloc::Global;
 

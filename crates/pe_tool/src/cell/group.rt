@@ -4,14 +4,14 @@ ghost use Rattle.std.specs.Prelude.{◌≡◌, ◌∷◌, [], List, ℕ, map, no
 ghost use Rattle.std.specs.Option.{option_copied, option_map};
 ghost use Rattle.std.specs.List.{list_all, list_any, AllZip};
 ghost use Rattle.pe_base.specs.Names.{has_name};
-ghost use Rattle.pe_liberty_read.specs.Groups.{bytes_of, words};
-ghost use Rattle.pe_liberty_read.specs.Looking.{view};
+ghost use Rattle.pe_liberty_plain.specs.Groups.{bytes_of, words};
+ghost use Rattle.pe_liberty_plain.specs.Looking.{view};
 ghost use Rattle.pe_tool.specs.Cell.{is_named, first_named, says, is_said, saying, HasName, is_plain};
 ghost use Rattle.pe_tool.specs.CellReading.{Gives};
 
 use crate::fault::FormFault;
 use pe_base::Name;
-use pe_liberty_read::{Group, Statement, Value, first_attribute, has_word};
+use pe_liberty_plain::{Group, Statement, Value, first_attribute, has_word};
 use sqlite_items::Items;
 use std::alloc::{AllocError, Global};
 

@@ -2,7 +2,7 @@
 
 ghost use Rattle.std.specs.Prelude.{◌≡◌, ◌∷◌, [], List, ℕ, map, codes, IfOk};
 ghost use Rattle.std.specs.List.{AllZip};
-ghost use Rattle.pe_liberty_read.specs.Looking.{view};
+ghost use Rattle.pe_liberty_plain.specs.Looking.{view};
 ghost use Rattle.pe_tool.specs.declared.function.Sum.{Sum};
 ghost use Rattle.pe_tool.specs.declared.cell.CellOutput.{CellOutput};
 ghost use Rattle.pe_tool.specs.declared.cell.CellView.{CellView};
@@ -14,7 +14,7 @@ use super::{CellOutput, CellView};
 use crate::fault::FormFault;
 use crate::function::{Sum, read_sum};
 use pe_base::Name;
-use pe_liberty_read::{Group, Statement};
+use pe_liberty_plain::{Group, Statement};
 use sqlite_items::Items;
 use std::alloc::Global;
 

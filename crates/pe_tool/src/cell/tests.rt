@@ -3,7 +3,7 @@
 use super::{CellView, cell_view};
 use crate::fault::FormFault;
 use crate::function::Sum;
-use pe_liberty_read::read_library;
+use pe_liberty_plain::read_library;
 use std::test::Fail;
 
 const CELLS: &[u8] = b"library (pe) {

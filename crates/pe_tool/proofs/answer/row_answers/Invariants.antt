@@ -1,5 +1,5 @@
 use Rattle.std.proofs.Common.{◌≡◌, ◌++◌, drop, map}
-use Rattle.pe_verilog_read.specs.Ports.{output_names}
+use Rattle.pe_verilog_plain.specs.Ports.{output_names}
 use Rattle.pe_tool.specs.Questions.{first_refuting, row_answers}
 use Rattle.pe_tool.proofs.answer.row_answers.Given as goal
 

@@ -1,6 +1,6 @@
 use Rattle.std.proofs.Common.{◌≡◌, codes, map, sym, ap, ◌∙◌}
-use Rattle.pe_liberty_read.specs.Groups.{groups}
-use Rattle.pe_liberty_read.specs.Looking.{view}
+use Rattle.pe_liberty_plain.specs.Groups.{groups}
+use Rattle.pe_liberty_plain.specs.Looking.{view}
 use Rattle.pe_tool.specs.Cell.{first_named}
 use Rattle.pe_tool.proofs.CellViews.{cell_found}
 use Rattle.pe_tool.proofs.cell.cell_view.Goals as goal

@@ -1,7 +1,7 @@
 use Rattle.std.proofs.Common.{◌≡◌, ℕ, Bool, true, false, List, codes, map, length, sym, ap, ◌∙◌, subst}
 use Rattle.std.proofs.lemmas.List.{length-map}
-use Rattle.pe_liberty_read.specs.Groups.{Group, groups}
-use Rattle.pe_liberty_read.specs.Looking.{view}
+use Rattle.pe_liberty_plain.specs.Groups.{Group, groups}
+use Rattle.pe_liberty_plain.specs.Looking.{view}
 use Rattle.pe_tool.specs.declared.cell.CellView.{CellView}
 use Rattle.pe_tool.specs.CellReading.{is_sound, is_complete, HasPins}
 use Rattle.pe_tool.proofs.CellViews.{sound_is, view_sound, view_complete, view_from, pins_of_view, pins_same}

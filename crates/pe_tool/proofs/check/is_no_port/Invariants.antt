@@ -1,6 +1,6 @@
 use Rattle.std.proofs.Common.{◌≡◌, drop}
 use Rattle.pe_base.specs.Names.{has_name}
-use Rattle.pe_verilog_read.specs.Ports.{port_names}
+use Rattle.pe_verilog_plain.specs.Ports.{port_names}
 use Rattle.pe_tool.proofs.check.is_no_port.Given as goal
 
 abbrev pub invariant-loop-port : goal.invariant-loop-port

@@ -1,6 +1,6 @@
 use Rattle.std.proofs.Common.{◌≡◌, ◌++◌, drop}
 use Rattle.std.specs.List.{flat_map}
-use Rattle.pe_verilog_read.specs.Net.{instances}
+use Rattle.pe_verilog_plain.specs.Net.{instances}
 use Rattle.pe_tool.specs.NetMeaning.{uses, uses_of}
 use Rattle.pe_tool.specs.Fit.{driven_nets}
 use Rattle.pe_tool.proofs.fit.all_driven.Given as goal

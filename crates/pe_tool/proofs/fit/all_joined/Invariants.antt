@@ -1,6 +1,6 @@
 use Rattle.std.proofs.Common.{◌≡◌, drop}
 use Rattle.std.specs.List.{list_all}
-use Rattle.pe_verilog_read.specs.Net.{instances}
+use Rattle.pe_verilog_plain.specs.Net.{instances}
 use Rattle.pe_tool.specs.NetMeaning.{uses, uses_of}
 use Rattle.pe_tool.specs.Fit.{is_joined}
 use Rattle.pe_tool.proofs.fit.all_joined.Given as goal

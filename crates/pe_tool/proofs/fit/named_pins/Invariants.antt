@@ -1,5 +1,5 @@
 use Rattle.std.proofs.Common.{◌≡◌, ◌++◌, drop}
-use Rattle.pe_verilog_read.specs.Net.{pins}
+use Rattle.pe_verilog_plain.specs.Net.{pins}
 use Rattle.pe_tool.proofs.fit.named_pins.Given as goal
 
 abbrev pub invariant-loop-connection : goal.invariant-loop-connection

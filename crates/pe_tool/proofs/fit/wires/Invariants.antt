@@ -1,5 +1,5 @@
 use Rattle.std.proofs.Common.{◌≡◌, ◌++◌, drop}
-use Rattle.pe_verilog_read.specs.Net.{net_wires}
+use Rattle.pe_verilog_plain.specs.Net.{net_wires}
 use Rattle.pe_tool.proofs.fit.wires.Given as goal
 
 abbrev pub invariant-loop-item : goal.invariant-loop-item

@@ -1,5 +1,5 @@
 use Rattle.std.proofs.Common.{◌≡◌, drop}
-use Rattle.pe_verilog_read.specs.Net.{instances}
+use Rattle.pe_verilog_plain.specs.Net.{instances}
 use Rattle.pe_tool.specs.NetMeaning.{cell_on, uses, uses_of}
 use Rattle.pe_tool.proofs.net_value.driven_value.Given as goal
 

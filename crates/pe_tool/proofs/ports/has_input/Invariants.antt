@@ -1,6 +1,6 @@
 use Rattle.std.proofs.Common.{◌≡◌, drop}
 use Rattle.pe_base.specs.Names.{has_name}
-use Rattle.pe_verilog_read.specs.Ports.{input_names}
+use Rattle.pe_verilog_plain.specs.Ports.{input_names}
 use Rattle.pe_tool.proofs.ports.has_input.Given as goal
 
 abbrev pub invariant-loop-port : goal.invariant-loop-port

@@ -1,5 +1,5 @@
 use Rattle.std.proofs.Common.{◌≡◌, ◌≤◌, ◌+◌, drop, length}
-use Rattle.pe_verilog_read.specs.Ports.{input_names}
+use Rattle.pe_verilog_plain.specs.Ports.{input_names}
 use Rattle.pe_tool.proofs.ports.input_count.Given as goal
 
 abbrev pub invariant-loop-port : goal.invariant-loop-port

@@ -1,7 +1,7 @@
 use Rattle.std.proofs.Common.{◌≡◌, ◌++◌, drop, map}
 use Rattle.std.specs.List.{enumerate_from}
 use Rattle.pe_base.specs.declared.text.Step.TheVariants.{Start}
-use Rattle.pe_verilog_read.specs.Ports.{output_names}
+use Rattle.pe_verilog_plain.specs.Ports.{output_names}
 use Rattle.pe_tool.specs.declared.question.Point.TheVariants.{Output}
 use Rattle.pe_tool.specs.Questions.{row_questions}
 use Rattle.pe_tool.proofs.question.row_questions.Given as goal

@@ -1,5 +1,5 @@
 use Rattle.std.proofs.Common.{◌≡◌, ◌++◌, drop}
-use Rattle.pe_verilog_read.specs.Ports.{input_names}
+use Rattle.pe_verilog_plain.specs.Ports.{input_names}
 use Rattle.pe_tool.specs.Report.{input_lines}
 use Rattle.pe_tool.proofs.report.add_inputs.Given as goal
 

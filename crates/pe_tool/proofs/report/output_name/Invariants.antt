@@ -1,5 +1,5 @@
 use Rattle.std.proofs.Common.{◌≡◌, drop}
-use Rattle.pe_verilog_read.specs.Ports.{output_names}
+use Rattle.pe_verilog_plain.specs.Ports.{output_names}
 use Rattle.pe_tool.specs.RtlMeaning.{name_at}
 use Rattle.pe_tool.proofs.report.output_name.Given as goal
 

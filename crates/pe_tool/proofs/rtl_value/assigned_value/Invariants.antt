@@ -1,5 +1,5 @@
 use Rattle.std.proofs.Common.{◌≡◌, drop}
-use Rattle.pe_verilog_read.specs.Rtl.{assigns}
+use Rattle.pe_verilog_plain.specs.Rtl.{assigns}
 use Rattle.pe_tool.specs.RtlMeaning.{assignment_to}
 use Rattle.pe_tool.proofs.rtl_value.assigned_value.Given as goal
 

@@ -1,5 +1,5 @@
 use Rattle.std.proofs.Common.{◌≡◌, map, drop}
-use Rattle.pe_liberty_read.specs.Looking.{view}
+use Rattle.pe_liberty_plain.specs.Looking.{view}
 use Rattle.pe_tool.specs.Cell.{first_named}
 use Rattle.pe_tool.proofs.cell.group.first_named.Given as goal
 

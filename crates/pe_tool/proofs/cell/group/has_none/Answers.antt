@@ -1,5 +1,5 @@
 use Rattle.std.proofs.Common.{not, ap, ◌∙◌}
-use Rattle.pe_liberty_read.specs.Groups.{words}
+use Rattle.pe_liberty_plain.specs.Groups.{words}
 use Rattle.pe_tool.proofs.CellViews.{any_among}
 use Rattle.pe_tool.proofs.cell.group.has_none.Goals as goal
 

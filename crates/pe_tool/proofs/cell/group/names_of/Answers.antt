@@ -1,6 +1,6 @@
 use Rattle.std.proofs.Common.{◌≡◌, ◌+◌, ℕ, List, [], ◌∷◌, ◌++◌, map, drop, sym, subst}
 use Rattle.std.proofs.lemmas.Result.{err_from_is_err_and}
-use Rattle.pe_liberty_read.specs.Looking.{view}
+use Rattle.pe_liberty_plain.specs.Looking.{view}
 use Rattle.pe_tool.specs.Cell.{HasName}
 use Rattle.pe_tool.proofs.CellZips.{Zips, zips_step, zips_stop, zips_end, zips_found}
 use Rattle.pe_tool.proofs.CellViews.{gives_stop, gives_none}

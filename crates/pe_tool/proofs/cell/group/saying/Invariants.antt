@@ -1,5 +1,5 @@
 use Rattle.std.proofs.Common.{◌≡◌, map, take}
-use Rattle.pe_liberty_read.specs.Looking.{view}
+use Rattle.pe_liberty_plain.specs.Looking.{view}
 use Rattle.pe_tool.specs.Cell.{saying}
 use Rattle.pe_tool.proofs.cell.group.saying.Given as goal
 

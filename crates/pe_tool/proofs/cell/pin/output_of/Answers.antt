@@ -1,5 +1,5 @@
 use Rattle.std.proofs.lemmas.Result.{err_from_is_err_and}
-use Rattle.pe_liberty_read.specs.Looking.{view}
+use Rattle.pe_liberty_plain.specs.Looking.{view}
 use Rattle.pe_tool.proofs.CellViews.{output_same, gives_like}
 use Rattle.pe_tool.proofs.cell.pin.output_of.Goals as goal
 

@@ -1,7 +1,7 @@
 use Rattle.std.proofs.Common.{◌≡◌, ℕ, ◌+◌, Bool, false, eqb, List, ◌∷◌, [], map, length, codes, ap, sym, ◌∙◌, arith}
 use Rattle.std.proofs.lemmas.List.{length-map}
 use Rattle.std.proofs.lemmas.Slice.Zip.{AllZip-long}
-use Rattle.pe_liberty_read.specs.Looking.{view}
+use Rattle.pe_liberty_plain.specs.Looking.{view}
 use Rattle.pe_tool.specs.Cell.{HasName, saying}
 use Rattle.pe_tool.proofs.cell.pin.supply_pin.Goals as goal
 use Rattle.pe_tool.proofs.cell.pin.supply_pin.Goals.{in_default-via-in-Some+else-is_empty, in_default-via-in_default}

@@ -1,5 +1,0 @@
-use Rattle.pe_verilog_read.proofs.RtlTexts.{one_module}
-use Rattle.pe_verilog_read.proofs.rtl.one_rtl.Goals as goal
-
-pub returns : goal.returns
-returns c = one_module
