@@ -1,0 +1,9 @@
+//! Power intent in UPF (IEEE 1801): which tree a text spells, and where a text that spells none goes wrong.
+#![tactic(auto)]
+
+mod intent;
+mod reading;
+mod table;
+
+pub use intent::{Command, Flow, Intent, Sense, Side};
+pub use reading::one_upf;
