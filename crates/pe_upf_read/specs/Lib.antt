@@ -1,1 +1,3 @@
 pub mod UpfGrammar
+pub mod Parts
+pub mod Terminals

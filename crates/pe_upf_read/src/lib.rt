@@ -2,8 +2,10 @@
 #![tactic(auto)]
 
 mod intent;
+mod parts;
 mod reading;
 mod table;
+mod terminals;
 
 pub use intent::{Command, Flow, Intent, Sense, Side};
 pub use reading::one_upf;
