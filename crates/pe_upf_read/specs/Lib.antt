@@ -1,3 +1,6 @@
 pub mod UpfGrammar
 pub mod Parts
 pub mod Terminals
+pub mod Words
+pub mod Places
+pub mod Names

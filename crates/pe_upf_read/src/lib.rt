@@ -2,6 +2,7 @@
 #![tactic(auto)]
 
 mod intent;
+mod names;
 mod parts;
 mod reading;
 mod table;
