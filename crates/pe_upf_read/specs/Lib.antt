@@ -4,3 +4,5 @@ pub mod Terminals
 pub mod Words
 pub mod Places
 pub mod Names
+pub mod Options
+pub mod Meaning

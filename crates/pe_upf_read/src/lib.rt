@@ -3,6 +3,7 @@
 
 mod intent;
 mod names;
+mod options;
 mod parts;
 mod reading;
 mod table;
