@@ -1,6 +1,7 @@
 //! Power intent in UPF (IEEE 1801): which tree a text spells, and where a text that spells none goes wrong.
 #![tactic(auto)]
 
+mod build;
 mod intent;
 mod names;
 mod options;
