@@ -6,3 +6,5 @@ pub mod Places
 pub mod Names
 pub mod Options
 pub mod Meaning
+pub mod Reading
+pub mod Spelling

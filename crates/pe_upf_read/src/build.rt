@@ -265,12 +265,7 @@ fn make_pieces(
 }
 
 /// A command whose words have no effect.
-fn make_ignored(
-    alloc: Global,
-    text: &[u8],
-    tokens: &[Token],
-    tree: &Tree,
-) -> Result<Command, Want>
+fn make_ignored(alloc: Global, text: &[u8], tokens: &[Token], tree: &Tree) -> Result<Command, Want>
     requires { length text.now ≤ 16777216 }
     ensures { IfOk result (λ c. c ≡ ignored_of text.now tokens.now (derivation tree.now)) }
 {
@@ -281,12 +276,7 @@ fn make_ignored(
 }
 
 #[tactic(auto, unfolding(crate::specs::Meaning::command_of))]
-fn make_command(
-    alloc: Global,
-    text: &[u8],
-    tokens: &[Token],
-    tree: &Tree,
-) -> Result<Command, Want>
+fn make_command(alloc: Global, text: &[u8], tokens: &[Token], tree: &Tree) -> Result<Command, Want>
     requires { length text.now ≤ 16777216 }
     ensures { IfOk result (λ c. c ≡ command_of text.now tokens.now (derivation tree.now)) }
 {

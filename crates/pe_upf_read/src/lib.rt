@@ -11,4 +11,4 @@ mod table;
 mod terminals;
 
 pub use intent::{Command, Flow, Intent, Sense, Side};
-pub use reading::one_upf;
+pub use reading::{one_upf, read_upf};

@@ -29,7 +29,11 @@ pub(crate) fn between(text: &[u8], from: u32, to: u32) -> &[u8]
 fn unquoted(bytes: &[u8]) -> &[u8]
     ensures { result.now ≡ slice_range bytes.now 1 (length bytes.now - 1) }
 {
-    if bytes.len() < 2 { &[] } else { &bytes[1..bytes.len() - 1] }
+    if bytes.len() < 2 {
+        &[]
+    } else {
+        &bytes[1..bytes.len() - 1]
+    }
 }
 
 /// The word of the token of this number.
@@ -55,7 +59,7 @@ fn name(alloc: Global, text: &[u8], tokens: &[Token], number: u32) -> Result<Nam
 }
 
 /// The byte at which the token of this number starts.
-fn start(text: &[u8], tokens: &[Token], number: usize) -> u32
+pub(crate) fn start(text: &[u8], tokens: &[Token], number: usize) -> u32
     requires { length text.now ≤ 16777216 }
     ensures { result ≡ start_of text.now tokens.now number }
 {

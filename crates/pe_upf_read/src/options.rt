@@ -104,12 +104,7 @@ pub(crate) fn set_under(
 }
 
 /// `{NAME NAME}`
-fn make_two(
-    alloc: Global,
-    text: &[u8],
-    tokens: &[Token],
-    tree: &Tree,
-) -> Result<(Name, Name), Want>
+fn make_two(alloc: Global, text: &[u8], tokens: &[Token], tree: &Tree) -> Result<(Name, Name), Want>
     ensures { IfOk result (λ two. two ≡ two_of text.now tokens.now (derivation tree.now)) }
 {
     let first = make_name(alloc, text, tokens, part(tree, 1))?;
@@ -191,12 +186,7 @@ pub(crate) fn on_under(
 }
 
 /// `{STATE {EXPRESSION}}`
-fn make_off(
-    alloc: Global,
-    text: &[u8],
-    tokens: &[Token],
-    tree: &Tree,
-) -> Result<(Name, Name), Want>
+fn make_off(alloc: Global, text: &[u8], tokens: &[Token], tree: &Tree) -> Result<(Name, Name), Want>
     requires { length text.now ≤ 16777216 }
     ensures { IfOk result (λ off. off ≡ off_of text.now tokens.now (derivation tree.now)) }
 {
@@ -263,7 +253,11 @@ pub(crate) fn all_states(
 fn flow(word: u16) -> Flow
     ensures { result ≡ flow_of word }
 {
-    if word == OUT { Flow::Outward } else { Flow::Inward }
+    if word == OUT {
+        Flow::Outward
+    } else {
+        Flow::Inward
+    }
 }
 
 /// Which way a port leads.
