@@ -12,3 +12,6 @@ mod terminals;
 
 pub use intent::{Command, Flow, Intent, Sense, Side};
 pub use reading::{one_upf, read_upf};
+
+#[cfg(test)]
+mod tests;
