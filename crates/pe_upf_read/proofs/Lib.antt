@@ -1,3 +1,4 @@
 pub mod Trees
 pub mod Readings
 pub mod Spellings
+pub mod Needed

@@ -1,6 +1,6 @@
 //! Reads a UPF text.
 
-ghost use Rattle.std.specs.Prelude.{◌≡◌, ◌≢◌, ◌≤◌, ◌↔◌, ℕ, List, length, IfOk, IfErr, MatchResult};
+ghost use Rattle.std.specs.Prelude.{◌≡◌, ◌≢◌, ◌≤◌, ◌↔◌, ℕ, List, length, IfOk, IfErr, MatchResult, true};
 ghost use Rattle.std.specs.List.{All};
 ghost use Rattle.pe_grammar.specs.Derivation.{Derivation, derivation};
 ghost use Rattle.pe_grammar.specs.Grammar.{Derives, Spells};
@@ -11,6 +11,8 @@ ghost use Rattle.pe_text.specs.declared.fault.ReadFault.{ReadFault};
 ghost use Rattle.pe_text.specs.declared.fault.ReadFault.TheVariants.{Memory};
 ghost use Rattle.pe_text.specs.declared.language.Lang.TheVariants.{Upf};
 ghost use Rattle.pe_upf_read.specs.declared.intent.Intent.{Intent};
+ghost use Rattle.pe_upf_read.specs.Options.{has};
+ghost use Rattle.pe_upf_read.specs.Parts.{each};
 ghost use Rattle.pe_upf_read.specs.Places.{byte_of};
 ghost use Rattle.pe_upf_read.specs.Reading.{IsSyntaxFault};
 ghost use Rattle.pe_upf_read.specs.Spelling.{IsUpf, IsUpfFault, IsAnswer};
@@ -20,7 +22,10 @@ ghost use Rattle.pe_upf_read.specs.UpfGrammar.{upf_grammar};
 use crate::build::make_intent;
 use crate::intent::Intent;
 use crate::names::start;
-use crate::table::{AT_FILE, UPF};
+use crate::table::{
+    AT_FILE, AT_ISOLATION_OPTIONS, AT_RETENTION_OPTIONS, AT_ROW_OPTIONS, AT_SWITCH_OPTIONS, DOMAIN,
+    INPUT_SUPPLY_PORT, ON_STATE, OUTPUT_SUPPLY_PORT, PST, STATE, UPF,
+};
 use crate::terminals::terminals;
 use pe_grammar::{Failure, Token as Terminal, parse};
 use pe_text::{Lang, ReadFault, Token, scan};
@@ -88,4 +93,12 @@ pub fn one_upf()
     ensures not_both { (text : List ℕ) (x : Intent) (f : ReadFault) → IsUpf text x → IsUpfFault text f → f ≡ Memory }
     ensures one_fault { (text : List ℕ) (f g : ReadFault) → IsUpfFault text f → IsUpfFault text g → f ≢ Memory → g ≢ Memory → f ≡ g }
     ensures written { (d : Derivation) → Derives UPF AT_FILE d ↔ IsOf upf_grammar (rule 0) d }
+{}
+
+/// The options that a command has to have are found in each of its texts.
+pub fn needed_options()
+    ensures switch { (d : Derivation) → Derives UPF AT_SWITCH_OPTIONS d → (has OUTPUT_SUPPLY_PORT (each d) ≡ true) × (has INPUT_SUPPLY_PORT (each d) ≡ true) × (has ON_STATE (each d) ≡ true) }
+    ensures row { (d : Derivation) → Derives UPF AT_ROW_OPTIONS d → (has PST (each d) ≡ true) × (has STATE (each d) ≡ true) }
+    ensures isolation { (d : Derivation) → Derives UPF AT_ISOLATION_OPTIONS d → has DOMAIN (each d) ≡ true }
+    ensures retention { (d : Derivation) → Derives UPF AT_RETENTION_OPTIONS d → has DOMAIN (each d) ≡ true }
 {}
