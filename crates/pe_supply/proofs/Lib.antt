@@ -1,0 +1,3 @@
+pub mod Gatherings
+pub mod Places
+pub mod Settling
