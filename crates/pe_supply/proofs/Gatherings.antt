@@ -1,13 +1,11 @@
 -- Steps that are counted one after the other.
-use Rattle.std.proofs.Common.{◌≡◌, ℕ, ◌+◌, ◌≤◌, Bool, true, false, cond, List, [], ◌∷◌, ◌++◌, length, map, refl, ap, sym, ◌∙◌, arith, append-nil, append_assoc}
-use Rattle.std.specs.Prelude.{filter}
+use Rattle.std.proofs.Common.{◌≡◌, ℕ, ◌+◌, Bool, List, [], ◌∷◌, ◌++◌, map, refl, ap, sym, ◌∙◌, arith, append-nil, append_assoc}
 use Rattle.std.specs.List.{flat_map, range_with_len}
 use Rattle.std.proofs.lemmas.List.FromFn.{map-range_with_len_more}
-use Rattle.std.proofs.lemmas.List.Elements.{filter-append}
 use Rattle.std.proofs.lemmas.Grind.{flat_map-append}
 use Rattle.pe_base.specs.declared.text.Step.{Step}
 use Rattle.pe_supply.specs.declared.permitted.Gathered.{Gathered}
-use Rattle.pe_supply.specs.Gathering.{IsGathered, Offers}
+use Rattle.pe_supply.specs.Gathering.{Offers}
 
 -- nothing is offered
 pub offers_none : (rule : Step → Bool) (g : Gathered) → Offers rule [] g g

@@ -1,3 +1,4 @@
+pub mod Chains
 pub mod Gatherings
 pub mod Places
 pub mod Settling

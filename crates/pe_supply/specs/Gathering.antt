@@ -1,5 +1,5 @@
 -- Steps that are counted, and kept while they are few.
-use Rattle.std.specs.Prelude.{◌≡◌, ℕ, ◌≤◌, Bool, List, ◌++◌, length, filter}
+use Rattle.std.specs.Prelude.{◌≡◌, ◌≤◌, Bool, List, ◌++◌, length, filter}
 use Rattle.pe_base.specs.declared.text.Step.{Step}
 use Rattle.pe_supply.specs.declared.permitted.Gathered.{Gathered}
 use Rattle.pe_supply.specs.Steps.{told}

@@ -1,5 +1,5 @@
 -- When a row of the power state table holds.
-use Rattle.std.specs.Prelude.{ℕ, Bool, true, false, not, ◌&&◌, List, [], ◌∷◌, slice_index_or}
+use Rattle.std.specs.Prelude.{ℕ, Bool, true, false, not, ◌&&◌, List, ◌∷◌, slice_index_or}
 use Rattle.pe_supply.specs.declared.supplies.Level.{Level}
 use Rattle.pe_supply.specs.declared.supplies.Level.TheVariants.{On, Off, Any}
 

@@ -1,8 +1,8 @@
 -- The states of supplies under states of the roots and values of the control ports.
-use Rattle.std.specs.Prelude.{◌≡◌, ℕ, zero, suc, ◌+◌, ◌-◌, ◌<◌, Bool, true, false, ◌&&◌, cond, nat_lt, List, [], ◌∷◌, length, take, drop, sum_by, slice_index, slice_index_or}
+use Rattle.std.specs.Prelude.{◌≡◌, ℕ, zero, suc, ◌+◌, ◌-◌, ◌<◌, Bool, true, false, ◌&&◌, cond, nat_lt, List, [], ◌∷◌, length, take, drop, sum_by, slice_index}
 use Rattle.std.specs.List.{list_all}
 use Rattle.pe_base.specs.declared.value.Val.{Val}
-use Rattle.pe_base.specs.declared.value.Val.TheVariants.{Zero, One, Corrupt}
+use Rattle.pe_base.specs.declared.value.Val.TheVariants.{Zero, One}
 use Rattle.pe_base.specs.Values.{exact_extension}
 use Rattle.pe_bool_expr.specs.declared.expr.Expr.{Expr}
 use Rattle.pe_bool_expr.specs.Functions.{holds}

@@ -1,6 +1,6 @@
 -- What makes supplies well formed.
-use Rattle.std.specs.Prelude.{◌≡◌, ℕ, zero, suc, ◌+◌, ◌-◌, ◌<◌, ◌≤◌, Bool, true, false, ◌||◌, nat_lt, ◌==◌, cond, List, [], ◌∷◌, ◌++◌, length, map, slice_index, Option, Some, None}
-use Rattle.std.specs.List.{All, Any}
+use Rattle.std.specs.Prelude.{◌≡◌, ℕ, zero, suc, ◌+◌, ◌-◌, ◌<◌, ◌≤◌, Bool, true, false, ◌||◌, nat_lt, ◌==◌, cond, List, [], ◌∷◌, ◌++◌, length, map, slice_index}
+use Rattle.std.specs.List.{All}
 use Rattle.std.specs.Option.{ForSome}
 use Rattle.pe_bool_expr.specs.declared.expr.Expr.{Expr}
 use Rattle.pe_bool_expr.specs.Functions.{different, pins_of}
@@ -33,6 +33,10 @@ abbrev pub is_fed : Supplies → ℕ → ℕ → Bool
 is_fed s zero i = false
 is_fed s (suc n) i = nat_lt (driver s i) (length s.roots) || is_fed s n (input_of s (driver s i - length s.roots))
 
+-- the supply of each name
+abbrev pub supplies_named : Supplies → List ℕ
+supplies_named s = map (λ name. name.1) s.names
+
 -- a boolean function of at most 10 different names
 abbrev pub IsSmall : Expr → Type 0
 IsSmall e = length (different (pins_of e)) ≤ 10
@@ -57,8 +61,8 @@ pub record IsWellFormed (s : Supplies) : Type 0 where
   -- no supply reaches itself through the inputs of switches: each comes to a root
   pub fed : (i : ℕ) → i < count_of s → is_fed s (count_of s) i ≡ true
   -- each name is that of a supply, and each supply has one
-  pub names : All (λ name. name.1 < count_of s) s.names
-  pub named : (i : ℕ) → i < count_of s → Any (λ name. name.1 ≡ i) s.names
+  pub names : All (λ i. i < count_of s) (supplies_named s)
+  pub named : (i : ℕ) → i < count_of s → place (supplies_named s) i < length s.names
   pub sets : All (λ set. ForSome set.1 (λ i. i < count_of s) × ForSome set.2 (λ i. i < count_of s)) s.sets
   pub table : All (λ i. i < count_of s) s.table
   pub rows : All (λ row. length row.levels ≡ length s.table) s.rows

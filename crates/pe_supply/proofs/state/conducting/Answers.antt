@@ -1,5 +1,5 @@
-use Rattle.std.proofs.Common.{◌≡◌, ◌∷◌, [], ◌++◌, ◌+◌, length, drop, take, length-drop, arith, ap, sym, ◌∙◌, append_assoc}
-use Rattle.pe_supply.specs.States.{conducting, conducts, ports_of}
+use Rattle.std.proofs.Common.{◌≡◌, ◌++◌, length, drop, take, length-drop, arith, ap, ◌∙◌, append_assoc}
+use Rattle.pe_supply.specs.States.{conducts}
 use Rattle.pe_supply.proofs.Settling.{conducting_step, ports_step}
 use Rattle.pe_supply.proofs.state.conducting.Goals as goal
 

@@ -1,4 +1,4 @@
-use Rattle.std.proofs.Common.{◌≡◌, sym, subst, arith}
+use Rattle.std.proofs.Common.{sym, subst}
 use Rattle.std.specs.List.{flat_map, range_with_len}
 use Rattle.pe_supply.specs.Gathering.{Offers}
 use Rattle.pe_supply.specs.Steps.{is_permitted, every_step_from}
