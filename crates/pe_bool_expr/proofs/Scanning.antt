@@ -26,11 +26,12 @@ use Rattle.pe_bool_expr.proofs.Tokens.{Means, means, bracketed, side_by_side}
 abbrev Tail : Style → List Token → Type 0
 Tail style xs = (ps : List Token) → IsOperand style ps → Is style 0 (ps ++ xs)
 
--- tokens of the kind P, and then for each parenthesis that is open its end and what stands behind it
+-- tokens of which P holds, and then for each parenthesis that is open the one that closes it and what stands behind that
 abbrev Split : (List Token → Type 0) → Style → ℕ → List Token → Type 0
 Split P style zero ts = P ts
 Split P style (suc n) ts = (xs : List Token) × (c : Token) × (ys : List Token) × (ts ≡ xs ++ c ∷ ys) × (c.kind ≡ 11) × P xs × Split (Tail style) style n ys
 
+-- tokens put before the first of these parts
 grown : (P Q : List Token → Type 0) (style : Style) (xs : List Token) (n : ℕ) (ts : List Token) → ((ys : List Token) → P ys → Q (xs ++ ys)) → Split P style n ts → Split Q style n (xs ++ ts)
 grown P Q style xs zero ts f h = f ts h
 grown P Q style xs (suc n) ts f h = (xs ++ h.0, h.1, h.2, ap (λ v. xs ++ v) h.3 ∙ sym (append_assoc xs h.0 (h.1 ∷ h.2)), h.4, f h.0 h.5, h.6)
@@ -40,6 +41,7 @@ record Known (style : Style) (ts : List Token) (n : ℕ) : Type 0 where
   before : Ends style (Some (before_operand n)) ts → Split (Is style 0) style n ts
   behind : Ends style (Some (behind_operand n)) ts → Split (Tail style) style n ts
 
+-- one token more, where an operand is expected
 begins : (style : Style) (role : Role) (t : Token) (ts : List Token) (n : ℕ) → Means style role t → ((n : ℕ) → Known style ts n) → Ends style (begun role n) ts → Split (Is style 0) style n (t ∷ ts)
 begins style Leading t ts n m known h = grown (Is style 0) (Is style 0) style (t ∷ []) n ts m ((known n).before h)
 begins style Opening t ts n m known h =
@@ -52,6 +54,7 @@ begins style Closing t ts n m known h = no_end style ts h
 begins style Trailing t ts n m known h = no_end style ts h
 begins style Joining t ts n m known h = no_end style ts h
 
+-- one token more, behind an operand
 goes_on : (style : Style) (role : Role) (t : Token) (ts : List Token) (n : ℕ) → Means style role t → ((n : ℕ) → Known style ts n) → Ends style (gone_on style role n) ts → Split (Tail style) style n (t ∷ ts)
 goes_on style Joining t ts n m known h =
     grown (Is style 0) (Tail style) style (t ∷ []) n ts (λ ys i. λ ps p. is_same style 0 (ps ++ t ∷ [] ++ ys) (ps ++ (t ∷ ys)) (append_assoc ps (t ∷ []) ys) (m ps p ys i)) ((known n).before h)
