@@ -1,4 +1,3 @@
 pub mod Trees
-pub mod Readings
 pub mod Spellings
 pub mod Needed

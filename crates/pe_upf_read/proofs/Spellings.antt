@@ -1,18 +1,16 @@
 -- A text spells one tree, or is refused, and not both.
 use Rattle.std.proofs.Common.{◌≡◌, ◌∙◌, ℕ, List, Result, Ok, Err, refl, sym, ap}
 use Rattle.std.specs.Prelude.{MatchResult}
-use Rattle.pe_grammar.specs.Derivation.{Derivation}
 use Rattle.pe_grammar.proofs.Test.{deterministic}
 use Rattle.pe_text.specs.declared.fault.ReadFault.{ReadFault}
 use Rattle.pe_text.specs.declared.fault.ReadFault.TheVariants.{Memory, Syntax, Unsupported, Limit}
 use Rattle.pe_text.specs.declared.language.Lang.TheVariants.{Upf}
-use Rattle.pe_text.specs.declared.token.Token.{Token}
 use Rattle.pe_upf_read.specs.declared.intent.Intent.{Intent}
 use Rattle.pe_upf_read.specs.declared.table.TheConstants.{UPF, AT_FILE}
 use Rattle.pe_upf_read.specs.Meaning.{intent_of}
 use Rattle.pe_upf_read.specs.Spelling.{IsUpf, IsUpfFault, IsAnswer}
 use Rattle.pe_upf_read.specs.Terminals.{terminals_of}
-use Rattle.pe_upf_read.proofs.Readings.{one, never_both}
+use Rattle.pe_reader.proofs.Readings.{one, never_both}
 
 pub one_intent : (text : List ℕ) (x y : Intent) → IsUpf text x → IsUpf text y → x ≡ y
 one_intent text x y p q =

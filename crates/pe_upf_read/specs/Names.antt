@@ -4,8 +4,8 @@ use Rattle.pe_grammar.specs.declared.terminal.Token.{Token as Terminal}
 use Rattle.pe_grammar.specs.Derivation.{Derivation, text as terminals_in}
 use Rattle.pe_text.specs.declared.token.Token.{Token}
 use Rattle.pe_upf_read.specs.declared.table.TheConstants.{OPEN, CLOSE, OTHER}
-use Rattle.pe_upf_read.specs.Words.{word_at}
-use Rattle.pe_upf_read.specs.Places.{start_of}
+use Rattle.pe_reader.specs.Words.{word_at}
+use Rattle.pe_reader.specs.Places.{start_of}
 
 abbrev pub is_brace : ℕ → Bool
 is_brace kind = (kind == OPEN) || (kind == CLOSE)

@@ -1,5 +1,5 @@
 -- What the options of a command say. An option is told by the word that begins it.
-use Rattle.std.specs.Prelude.{ℕ, ◌==◌, List, [], ◌∷◌, Bool, is_some, map, Option, Some, None, if◌then◌else◌}
+use Rattle.std.specs.Prelude.{ℕ, ◌==◌, List, [], ◌∷◌, Bool, is_some, Option, Some, None, if◌then◌else◌}
 use Rattle.std.specs.Option.{option_map}
 use Rattle.pe_grammar.specs.Derivation.{Derivation}
 use Rattle.pe_text.specs.declared.token.Token.{Token}
@@ -11,7 +11,7 @@ use Rattle.pe_upf_read.specs.declared.intent.Side.{Side}
 use Rattle.pe_upf_read.specs.declared.intent.Side.TheVariants.{Inputs, Outputs, Both}
 use Rattle.pe_upf_read.specs.declared.table.TheConstants as table
 use Rattle.pe_upf_read.specs.Names.{name_of, names_of, piece_of}
-use Rattle.pe_upf_read.specs.Parts.{bare, behind, part, head_of, find, all}
+use Rattle.pe_upf_read.specs.Parts.{bare, behind, part, head_of, find}
 
 -- a list where one is asked: none of a derivation without it, which no text has
 abbrev pub needed : {A : Type 0} → Option (List A) → List A

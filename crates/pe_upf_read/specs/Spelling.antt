@@ -1,7 +1,6 @@
 -- The tree that a text spells.
 use Rattle.std.specs.Prelude.{◌≡◌, ℕ, List, Result, Ok, Err}
 use Rattle.pe_grammar.specs.Derivation.{Derivation}
-use Rattle.pe_grammar.specs.Grammar.{Spells}
 use Rattle.pe_text.specs.declared.fault.ReadFault.{ReadFault}
 use Rattle.pe_text.specs.declared.fault.ReadFault.TheVariants as fault
 use Rattle.pe_text.specs.declared.language.Lang.TheVariants.{Upf}
@@ -9,7 +8,7 @@ use Rattle.pe_text.specs.declared.token.Token.{Token}
 use Rattle.pe_upf_read.specs.declared.intent.Intent.{Intent}
 use Rattle.pe_upf_read.specs.declared.table.TheConstants.{UPF, AT_FILE}
 use Rattle.pe_upf_read.specs.Meaning.{intent_of}
-use Rattle.pe_upf_read.specs.Reading.{IsParsed, IsReadFault}
+use Rattle.pe_reader.specs.Reading.{IsParsed, IsReadFault}
 use Rattle.pe_upf_read.specs.Terminals.{terminals_of}
 
 -- the text spells the tree

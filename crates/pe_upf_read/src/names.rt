@@ -1,75 +1,18 @@
 //! The names and words that a derivation has.
 
-ghost use Rattle.std.specs.Prelude.{◌≡◌, ◌≤◌, length, slice_range, IfOk, ◌-◌};
+ghost use Rattle.std.specs.Prelude.{◌≡◌, ◌≤◌, length, IfOk};
 ghost use Rattle.pe_grammar.specs.Derivation.{derivation};
-ghost use Rattle.pe_upf_read.specs.Words.{word_at};
-ghost use Rattle.pe_upf_read.specs.Places.{start_of};
+ghost use Rattle.pe_reader.specs.Places.{start_of};
 ghost use Rattle.pe_upf_read.specs.Names.{is_brace, names_in, name_in, names_of, name_of, terminal_at, end_of, piece_of, piece_from};
 
 use crate::parts::gather;
 use crate::table::{CLOSE, OPEN, OTHER};
 use pe_base::{Name, Want};
 use pe_grammar::{Token as Terminal, Tree};
-use pe_text::{Kind, Token};
+use pe_reader::{between, name, start_of};
+use pe_text::Token;
 use sqlite_items::Items;
 use std::alloc::Global;
-
-/// The bytes of a text from one place to another, as far as they are there.
-pub(crate) fn between(text: &[u8], from: u32, to: u32) -> &[u8]
-    ensures { result.now ≡ slice_range text.now from to }
-{
-    let from = from as usize;
-    let to = (to as usize).min(text.len());
-    if from < to { &text[from..to] } else { &[] }
-}
-
-// begin of what pe_reader offers
-
-/// What stands between the quotes of a quoted text.
-fn unquoted(bytes: &[u8]) -> &[u8]
-    ensures { result.now ≡ slice_range bytes.now 1 (length bytes.now - 1) }
-{
-    if bytes.len() < 2 {
-        &[]
-    } else {
-        &bytes[1..bytes.len() - 1]
-    }
-}
-
-/// The word of the token of this number.
-fn word<'a>(text: &'a [u8], tokens: &[Token], number: u32) -> &'a [u8]
-    ensures { result.now ≡ word_at text.now tokens.now number }
-{
-    match tokens.get(number as usize) {
-        Some(token) => {
-            let bytes = between(text, token.span.from, token.span.to);
-            match token.kind {
-                Kind::Text => unquoted(bytes),
-                _ => bytes,
-            }
-        }
-        None => &[],
-    }
-}
-
-fn name(alloc: Global, text: &[u8], tokens: &[Token], number: u32) -> Result<Name, Want>
-    ensures { IfOk result (λ n. n ≡ word_at text.now tokens.now number) }
-{
-    Name::new(alloc, word(text, tokens, number))
-}
-
-/// The byte at which the token of this number starts.
-pub(crate) fn start(text: &[u8], tokens: &[Token], number: usize) -> u32
-    requires { length text.now ≤ 16777216 }
-    ensures { result ≡ start_of text.now tokens.now number }
-{
-    match tokens.get(number) {
-        Some(token) => token.span.from,
-        None => text.len() as u32,
-    }
-}
-
-// end of what pe_reader offers
 
 fn is_brace(kind: u16) -> bool
     ensures { result ≡ is_brace kind }
@@ -179,7 +122,7 @@ fn piece_from(
 {
     if first.kind == OPEN {
         let from = end(text, tokens, first.place as usize);
-        let to = start(text, tokens, last.place as usize);
+        let to = start_of(text, tokens, last.place as usize);
         Name::new(alloc, between(text, from, to))
     } else {
         name(alloc, text, tokens, first.place)

@@ -2,8 +2,8 @@
 
 ghost use Rattle.std.specs.Prelude.{◌≡◌, ◌≢◌, ◌≤◌, ◌↔◌, ℕ, List, length, IfOk, IfErr, MatchResult, true};
 ghost use Rattle.std.specs.List.{All};
-ghost use Rattle.pe_grammar.specs.Derivation.{Derivation, derivation};
-ghost use Rattle.pe_grammar.specs.Grammar.{Derives, Spells};
+ghost use Rattle.pe_grammar.specs.Derivation.{Derivation};
+ghost use Rattle.pe_grammar.specs.Grammar.{Derives};
 ghost use Rattle.pe_grammar.specs.Written.{IsOf, rule};
 ghost use Rattle.pe_text.specs.Lexemes.{IsPartOf};
 ghost use Rattle.pe_text.specs.Scan.{IsScanned};
@@ -13,34 +13,23 @@ ghost use Rattle.pe_text.specs.declared.language.Lang.TheVariants.{Upf};
 ghost use Rattle.pe_upf_read.specs.declared.intent.Intent.{Intent};
 ghost use Rattle.pe_upf_read.specs.Options.{has};
 ghost use Rattle.pe_upf_read.specs.Parts.{each};
-ghost use Rattle.pe_upf_read.specs.Places.{byte_of};
-ghost use Rattle.pe_upf_read.specs.Reading.{IsSyntaxFault};
+ghost use Rattle.pe_reader.specs.Places.{byte_of};
+ghost use Rattle.pe_reader.specs.Reading.{IsSyntaxFault};
 ghost use Rattle.pe_upf_read.specs.Spelling.{IsUpf, IsUpfFault, IsAnswer};
 ghost use Rattle.pe_upf_read.specs.Terminals.{terminals_of};
 ghost use Rattle.pe_upf_read.specs.UpfGrammar.{upf_grammar};
 
 use crate::build::make_intent;
 use crate::intent::Intent;
-use crate::names::start;
 use crate::table::{
     AT_FILE, AT_ISOLATION_OPTIONS, AT_RETENTION_OPTIONS, AT_ROW_OPTIONS, AT_SWITCH_OPTIONS, DOMAIN,
     INPUT_SUPPLY_PORT, ON_STATE, OUTPUT_SUPPLY_PORT, PST, STATE, UPF,
 };
 use crate::terminals::terminals;
-use pe_grammar::{Failure, Token as Terminal, parse};
+use pe_grammar::{Failure, parse};
+use pe_reader::byte_of;
 use pe_text::{Lang, ReadFault, Token, scan};
 use std::alloc::Global;
-
-/// The byte at which a terminal starts by its number, or where the text ends.
-fn byte_of(text: &[u8], tokens: &[Token], terminals: &[Terminal], number: usize) -> u32
-    requires { length text.now ≤ 16777216 }
-    ensures { result ≡ byte_of text.now tokens.now terminals.now number }
-{
-    match terminals.get(number) {
-        Some(terminal) => start(text, tokens, terminal.place as usize),
-        None => text.len() as u32,
-    }
-}
 
 /// The tree that the tokens of a text spell.
 fn read_tokens(alloc: Global, text: &[u8], tokens: &[Token]) -> Result<Intent, ReadFault>

@@ -632,117 +632,117 @@ pub const AT_TOKEN_TEXT: u16 = 235;
 
 pub const AT_PLAIN_3: u16 = 236;
 
-pub const AT_PLAIN_4: u16 = 237;
+pub const AT_PLAIN_PART_3: u16 = 237;
 
-pub const AT_PLAIN_5: u16 = 238;
+pub const AT_PLAIN_PART_3_PART_1: u16 = 238;
 
-pub const AT_PLAIN_6: u16 = 239;
+pub const AT_PLAIN_PART_3_PART_1_2: u16 = 239;
 
-pub const AT_PLAIN_7: u16 = 240;
+pub const AT_PLAIN_PART_3_PART_1_3: u16 = 240;
 
-pub const AT_PLAIN_8: u16 = 241;
+pub const AT_PLAIN_PART_3_2: u16 = 241;
 
-pub const AT_PLAIN_9: u16 = 242;
+pub const AT_PLAIN_PART_3_PART_2: u16 = 242;
 
-pub const AT_PLAIN_10: u16 = 243;
+pub const AT_PLAIN_PART_3_PART_2_2: u16 = 243;
 
-pub const AT_PLAIN_11: u16 = 244;
+pub const AT_PLAIN_PART_3_PART_2_3: u16 = 244;
 
-pub const AT_PLAIN_12: u16 = 245;
+pub const AT_PLAIN_PART_3_3: u16 = 245;
 
-pub const AT_PLAIN_13: u16 = 246;
+pub const AT_PLAIN_PART_3_PART_3: u16 = 246;
 
-pub const AT_PLAIN_14: u16 = 247;
+pub const AT_PLAIN_PART_3_PART_3_2: u16 = 247;
 
-pub const AT_PLAIN_15: u16 = 248;
+pub const AT_PLAIN_PART_3_PART_3_3: u16 = 248;
 
-pub const AT_PLAIN_16: u16 = 249;
+pub const AT_PLAIN_PART_3_PART_4: u16 = 249;
 
-pub const AT_PLAIN_17: u16 = 250;
+pub const AT_PLAIN_PART_3_PART_4_2: u16 = 250;
 
-pub const AT_PLAIN_18: u16 = 251;
+pub const AT_PLAIN_PART_3_PART_4_3: u16 = 251;
 
-pub const AT_PLAIN_19: u16 = 252;
+pub const AT_PLAIN_4: u16 = 252;
 
-pub const AT_PLAIN_20: u16 = 253;
+pub const AT_PLAIN_PART_4: u16 = 253;
 
-pub const AT_PLAIN_21: u16 = 254;
+pub const AT_PLAIN_PART_4_PART_1: u16 = 254;
 
-pub const AT_PLAIN_22: u16 = 255;
+pub const AT_PLAIN_PART_4_PART_1_2: u16 = 255;
 
-pub const AT_PLAIN_23: u16 = 256;
+pub const AT_PLAIN_PART_4_PART_1_3: u16 = 256;
 
-pub const AT_PLAIN_24: u16 = 257;
+pub const AT_PLAIN_PART_4_2: u16 = 257;
 
-pub const AT_PLAIN_25: u16 = 258;
+pub const AT_PLAIN_PART_4_PART_2: u16 = 258;
 
-pub const AT_PLAIN_26: u16 = 259;
+pub const AT_PLAIN_PART_4_PART_2_2: u16 = 259;
 
-pub const AT_PLAIN_27: u16 = 260;
+pub const AT_PLAIN_PART_4_PART_2_3: u16 = 260;
 
-pub const AT_PLAIN_28: u16 = 261;
+pub const AT_PLAIN_PART_4_3: u16 = 261;
 
-pub const AT_PLAIN_29: u16 = 262;
+pub const AT_PLAIN_PART_4_PART_3: u16 = 262;
 
-pub const AT_PLAIN_30: u16 = 263;
+pub const AT_PLAIN_PART_4_PART_3_2: u16 = 263;
 
-pub const AT_PLAIN_31: u16 = 264;
+pub const AT_PLAIN_PART_4_PART_3_3: u16 = 264;
 
-pub const AT_PLAIN_32: u16 = 265;
+pub const AT_PLAIN_PART_4_PART_4: u16 = 265;
 
-pub const AT_PLAIN_33: u16 = 266;
+pub const AT_PLAIN_PART_4_PART_4_2: u16 = 266;
 
-pub const AT_PLAIN_34: u16 = 267;
+pub const AT_PLAIN_PART_4_PART_4_3: u16 = 267;
 
-pub const AT_PLAIN_35: u16 = 268;
+pub const AT_PLAIN_5: u16 = 268;
 
-pub const AT_PLAIN_36: u16 = 269;
+pub const AT_PLAIN_PART_5: u16 = 269;
 
-pub const AT_PLAIN_37: u16 = 270;
+pub const AT_PLAIN_PART_5_PART_1: u16 = 270;
 
-pub const AT_PLAIN_38: u16 = 271;
+pub const AT_PLAIN_PART_5_PART_1_2: u16 = 271;
 
-pub const AT_PLAIN_39: u16 = 272;
+pub const AT_PLAIN_PART_5_PART_1_3: u16 = 272;
 
-pub const AT_PLAIN_40: u16 = 273;
+pub const AT_PLAIN_PART_5_2: u16 = 273;
 
-pub const AT_PLAIN_41: u16 = 274;
+pub const AT_PLAIN_PART_5_PART_2: u16 = 274;
 
-pub const AT_PLAIN_42: u16 = 275;
+pub const AT_PLAIN_PART_5_PART_2_2: u16 = 275;
 
-pub const AT_PLAIN_43: u16 = 276;
+pub const AT_PLAIN_PART_5_PART_2_3: u16 = 276;
 
-pub const AT_PLAIN_44: u16 = 277;
+pub const AT_PLAIN_PART_5_3: u16 = 277;
 
-pub const AT_PLAIN_45: u16 = 278;
+pub const AT_PLAIN_PART_5_PART_3: u16 = 278;
 
-pub const AT_PLAIN_46: u16 = 279;
+pub const AT_PLAIN_PART_5_PART_3_2: u16 = 279;
 
-pub const AT_PLAIN_47: u16 = 280;
+pub const AT_PLAIN_PART_5_PART_3_3: u16 = 280;
 
-pub const AT_PLAIN_48: u16 = 281;
+pub const AT_PLAIN_PART_5_PART_4: u16 = 281;
 
-pub const AT_PLAIN_49: u16 = 282;
+pub const AT_PLAIN_PART_5_PART_4_2: u16 = 282;
 
-pub const AT_PLAIN_50: u16 = 283;
+pub const AT_PLAIN_PART_5_PART_4_3: u16 = 283;
 
-pub const AT_PLAIN_51: u16 = 284;
+pub const AT_PLAIN_PART_6: u16 = 284;
 
-pub const AT_PLAIN_52: u16 = 285;
+pub const AT_PLAIN_PART_6_PART_1: u16 = 285;
 
-pub const AT_PLAIN_53: u16 = 286;
+pub const AT_PLAIN_PART_6_PART_1_2: u16 = 286;
 
-pub const AT_PLAIN_54: u16 = 287;
+pub const AT_PLAIN_PART_6_PART_1_3: u16 = 199;
 
-pub const AT_PLAIN_55: u16 = 288;
+pub const AT_PLAIN_PART_6_2: u16 = 287;
 
-pub const AT_PLAIN_56: u16 = 289;
+pub const AT_PLAIN_PART_6_PART_2: u16 = 288;
 
-pub const AT_PLAIN_57: u16 = 290;
+pub const AT_PLAIN_PART_6_PART_2_2: u16 = 289;
 
-pub const AT_PLAIN_58: u16 = 291;
+pub const AT_PLAIN_PART_6_PART_2_3: u16 = 290;
 
-pub static UPF: [Entry; 292] = [
+pub static UPF: [Entry; 291] = [
     Entry {
         form: Form::Sequence(30, 32),
         nullable: true,
@@ -923,7 +923,7 @@ pub static UPF: [Entry; 292] = [
         first: 1152921504606846975,
         goes_on: 1152921504606846975,
         opened: 0,
-        rank: 60,
+        rank: 13,
         height: 3,
     },
     Entry {
@@ -1022,7 +1022,7 @@ pub static UPF: [Entry; 292] = [
         first: 1152921504606846975,
         goes_on: 0,
         opened: 0,
-        rank: 59,
+        rank: 12,
         height: 2,
     },
     Entry {
@@ -1031,7 +1031,7 @@ pub static UPF: [Entry; 292] = [
         first: 1152921504606846975,
         goes_on: 0,
         opened: 0,
-        rank: 59,
+        rank: 12,
         height: 2,
     },
     Entry {
@@ -1049,7 +1049,7 @@ pub static UPF: [Entry; 292] = [
         first: 1152921504606846975,
         goes_on: 0,
         opened: 0,
-        rank: 59,
+        rank: 12,
         height: 3,
     },
     Entry {
@@ -1058,7 +1058,7 @@ pub static UPF: [Entry; 292] = [
         first: 576460752303423487,
         goes_on: 0,
         opened: 0,
-        rank: 58,
+        rank: 11,
         height: 1,
     },
     Entry {
@@ -1175,7 +1175,7 @@ pub static UPF: [Entry; 292] = [
         first: 1152921504606846975,
         goes_on: 917504,
         opened: 0,
-        rank: 60,
+        rank: 13,
         height: 3,
     },
     Entry {
@@ -1211,7 +1211,7 @@ pub static UPF: [Entry; 292] = [
         first: 1152921504606846975,
         goes_on: 3145728,
         opened: 0,
-        rank: 60,
+        rank: 13,
         height: 3,
     },
     Entry {
@@ -1247,7 +1247,7 @@ pub static UPF: [Entry; 292] = [
         first: 1152921504606846975,
         goes_on: 6291456,
         opened: 0,
-        rank: 60,
+        rank: 13,
         height: 3,
     },
     Entry {
@@ -1283,7 +1283,7 @@ pub static UPF: [Entry; 292] = [
         first: 1152921504606846975,
         goes_on: 0,
         opened: 0,
-        rank: 60,
+        rank: 13,
         height: 4,
     },
     Entry {
@@ -1337,7 +1337,7 @@ pub static UPF: [Entry; 292] = [
         first: 1152921504606846975,
         goes_on: 16777216,
         opened: 0,
-        rank: 60,
+        rank: 13,
         height: 3,
     },
     Entry {
@@ -1373,7 +1373,7 @@ pub static UPF: [Entry; 292] = [
         first: 1152921504606846975,
         goes_on: 100663296,
         opened: 0,
-        rank: 60,
+        rank: 13,
         height: 3,
     },
     Entry {
@@ -1409,7 +1409,7 @@ pub static UPF: [Entry; 292] = [
         first: 1152921504606846975,
         goes_on: 4162846720,
         opened: 0,
-        rank: 60,
+        rank: 13,
         height: 9,
     },
     Entry {
@@ -1445,7 +1445,7 @@ pub static UPF: [Entry; 292] = [
         first: 1152921504606846975,
         goes_on: 4294967296,
         opened: 0,
-        rank: 60,
+        rank: 13,
         height: 3,
     },
     Entry {
@@ -1490,7 +1490,7 @@ pub static UPF: [Entry; 292] = [
         first: 1152921504606846975,
         goes_on: 0,
         opened: 0,
-        rank: 60,
+        rank: 13,
         height: 4,
     },
     Entry {
@@ -1544,7 +1544,7 @@ pub static UPF: [Entry; 292] = [
         first: 1152921504606846975,
         goes_on: 21474836480,
         opened: 0,
-        rank: 60,
+        rank: 13,
         height: 5,
     },
     Entry {
@@ -1580,7 +1580,7 @@ pub static UPF: [Entry; 292] = [
         first: 1152921504606846975,
         goes_on: 4363689000960,
         opened: 0,
-        rank: 60,
+        rank: 13,
         height: 5,
     },
     Entry {
@@ -1616,7 +1616,7 @@ pub static UPF: [Entry; 292] = [
         first: 1152921504606846975,
         goes_on: 30786327805952,
         opened: 0,
-        rank: 60,
+        rank: 13,
         height: 5,
     },
     Entry {
@@ -1652,7 +1652,7 @@ pub static UPF: [Entry; 292] = [
         first: 1152921504606846975,
         goes_on: 1152921504606846975,
         opened: 0,
-        rank: 60,
+        rank: 13,
         height: 0,
     },
     Entry {
@@ -1805,7 +1805,7 @@ pub static UPF: [Entry; 292] = [
         first: 1152921504606846975,
         goes_on: 0,
         opened: 0,
-        rank: 60,
+        rank: 13,
         height: 3,
     },
     Entry {
@@ -1967,7 +1967,7 @@ pub static UPF: [Entry; 292] = [
         first: 1152921504606846975,
         goes_on: 16777216,
         opened: 0,
-        rank: 60,
+        rank: 13,
         height: 3,
     },
     Entry {
@@ -2039,7 +2039,7 @@ pub static UPF: [Entry; 292] = [
         first: 1152921504606846975,
         goes_on: 16777216,
         opened: 0,
-        rank: 60,
+        rank: 13,
         height: 3,
     },
     Entry {
@@ -2264,7 +2264,7 @@ pub static UPF: [Entry; 292] = [
         first: 1152921504606846975,
         goes_on: 0,
         opened: 0,
-        rank: 60,
+        rank: 13,
         height: 5,
     },
     Entry {
@@ -2273,7 +2273,7 @@ pub static UPF: [Entry; 292] = [
         first: 1152921504606846975,
         goes_on: 0,
         opened: 0,
-        rank: 60,
+        rank: 13,
         height: 4,
     },
     Entry {
@@ -2336,7 +2336,7 @@ pub static UPF: [Entry; 292] = [
         first: 1152921504606846975,
         goes_on: 0,
         opened: 0,
-        rank: 60,
+        rank: 13,
         height: 5,
     },
     Entry {
@@ -2345,7 +2345,7 @@ pub static UPF: [Entry; 292] = [
         first: 1152921504606846975,
         goes_on: 0,
         opened: 0,
-        rank: 61,
+        rank: 14,
         height: 4,
     },
     Entry {
@@ -2354,7 +2354,7 @@ pub static UPF: [Entry; 292] = [
         first: 1152921504606846975,
         goes_on: 1152921504606846975,
         opened: 0,
-        rank: 61,
+        rank: 14,
         height: 1,
     },
     Entry {
@@ -2363,7 +2363,7 @@ pub static UPF: [Entry; 292] = [
         first: 1152921504606846975,
         goes_on: 1152921504606846975,
         opened: 0,
-        rank: 60,
+        rank: 13,
         height: 3,
     },
     Entry {
@@ -2372,7 +2372,7 @@ pub static UPF: [Entry; 292] = [
         first: 1152921504606846975,
         goes_on: 1152921504606846975,
         opened: 0,
-        rank: 60,
+        rank: 13,
         height: 1,
     },
     Entry {
@@ -2768,7 +2768,7 @@ pub static UPF: [Entry; 292] = [
         first: 1152921504606846975,
         goes_on: 0,
         opened: 0,
-        rank: 60,
+        rank: 13,
         height: 3,
     },
     Entry {
@@ -2831,7 +2831,7 @@ pub static UPF: [Entry; 292] = [
         first: 1152921504606846975,
         goes_on: 0,
         opened: 0,
-        rank: 60,
+        rank: 13,
         height: 4,
     },
     Entry {
@@ -2849,7 +2849,7 @@ pub static UPF: [Entry; 292] = [
         first: 2305843009213693951,
         goes_on: 0,
         opened: 0,
-        rank: 61,
+        rank: 14,
         height: 1,
     },
     Entry {
@@ -2858,7 +2858,7 @@ pub static UPF: [Entry; 292] = [
         first: 1152921504606846975,
         goes_on: 1152921504606846975,
         opened: 0,
-        rank: 60,
+        rank: 13,
         height: 0,
     },
     Entry {
@@ -2876,7 +2876,7 @@ pub static UPF: [Entry; 292] = [
         first: 576460752303423487,
         goes_on: 0,
         opened: 0,
-        rank: 59,
+        rank: 12,
         height: 2,
     },
     Entry {
@@ -2885,7 +2885,7 @@ pub static UPF: [Entry; 292] = [
         first: 2305843009213693951,
         goes_on: 0,
         opened: 0,
-        rank: 61,
+        rank: 14,
         height: 1,
     },
     Entry {
@@ -2903,7 +2903,7 @@ pub static UPF: [Entry; 292] = [
         first: 432345564227567615,
         goes_on: 0,
         opened: 0,
-        rank: 57,
+        rank: 10,
         height: 1,
     },
     Entry {
@@ -2916,475 +2916,466 @@ pub static UPF: [Entry; 292] = [
         height: 0,
     },
     Entry {
-        form: Form::Choice(35, 237),
+        form: Form::Choice(237, 252),
         nullable: false,
         first: 144115188075855871,
         goes_on: 0,
         opened: 0,
-        rank: 56,
-        height: 1,
+        rank: 9,
+        height: 3,
     },
     Entry {
-        form: Form::Choice(38, 238),
+        form: Form::Choice(238, 241),
         nullable: false,
-        first: 144115188075855870,
+        first: 65535,
         goes_on: 0,
         opened: 0,
-        rank: 55,
-        height: 1,
+        rank: 6,
+        height: 2,
     },
     Entry {
-        form: Form::Choice(41, 239),
+        form: Form::Choice(35, 239),
         nullable: false,
-        first: 144115188075855868,
+        first: 15,
         goes_on: 0,
         opened: 0,
-        rank: 54,
+        rank: 3,
         height: 1,
     },
     Entry {
-        form: Form::Choice(45, 240),
+        form: Form::Choice(38, 240),
         nullable: false,
-        first: 144115188075855864,
+        first: 14,
         goes_on: 0,
         opened: 0,
-        rank: 53,
+        rank: 2,
         height: 1,
     },
     Entry {
-        form: Form::Choice(49, 241),
+        form: Form::Choice(41, 45),
         nullable: false,
-        first: 144115188075855856,
+        first: 12,
         goes_on: 0,
         opened: 0,
-        rank: 52,
+        rank: 1,
         height: 1,
     },
     Entry {
-        form: Form::Choice(53, 242),
+        form: Form::Choice(242, 245),
         nullable: false,
-        first: 144115188075855840,
+        first: 65520,
         goes_on: 0,
         opened: 0,
-        rank: 51,
-        height: 1,
+        rank: 5,
+        height: 2,
     },
     Entry {
-        form: Form::Choice(59, 243),
+        form: Form::Choice(49, 243),
         nullable: false,
-        first: 144115188075855808,
+        first: 240,
         goes_on: 0,
         opened: 0,
-        rank: 50,
+        rank: 3,
         height: 1,
     },
     Entry {
-        form: Form::Choice(63, 244),
+        form: Form::Choice(53, 244),
         nullable: false,
-        first: 144115188075855744,
+        first: 224,
         goes_on: 0,
         opened: 0,
-        rank: 49,
+        rank: 2,
         height: 1,
     },
     Entry {
-        form: Form::Choice(67, 245),
+        form: Form::Choice(59, 63),
         nullable: false,
-        first: 144115188075855616,
+        first: 192,
         goes_on: 0,
         opened: 0,
-        rank: 48,
+        rank: 1,
         height: 1,
     },
     Entry {
-        form: Form::Choice(71, 246),
+        form: Form::Choice(246, 249),
         nullable: false,
-        first: 144115188075855360,
+        first: 65280,
         goes_on: 0,
         opened: 0,
-        rank: 47,
-        height: 1,
+        rank: 4,
+        height: 2,
     },
     Entry {
-        form: Form::Choice(76, 247),
+        form: Form::Choice(67, 247),
         nullable: false,
-        first: 144115188075854848,
+        first: 3840,
         goes_on: 0,
         opened: 0,
-        rank: 46,
+        rank: 3,
         height: 1,
     },
     Entry {
-        form: Form::Choice(82, 248),
+        form: Form::Choice(71, 248),
         nullable: false,
-        first: 144115188075853824,
+        first: 3584,
         goes_on: 0,
         opened: 0,
-        rank: 45,
+        rank: 2,
         height: 1,
     },
     Entry {
-        form: Form::Choice(86, 249),
+        form: Form::Choice(76, 82),
         nullable: false,
-        first: 144115188075851776,
+        first: 3072,
         goes_on: 0,
         opened: 0,
-        rank: 44,
+        rank: 1,
         height: 1,
     },
     Entry {
-        form: Form::Choice(90, 250),
+        form: Form::Choice(86, 250),
         nullable: false,
-        first: 144115188075847680,
+        first: 61440,
         goes_on: 0,
         opened: 0,
-        rank: 43,
+        rank: 3,
         height: 1,
     },
     Entry {
-        form: Form::Choice(94, 251),
+        form: Form::Choice(90, 251),
         nullable: false,
-        first: 144115188075839488,
+        first: 57344,
         goes_on: 0,
         opened: 0,
-        rank: 42,
+        rank: 2,
         height: 1,
     },
     Entry {
-        form: Form::Choice(98, 252),
+        form: Form::Choice(94, 98),
         nullable: false,
-        first: 144115188075823104,
+        first: 49152,
         goes_on: 0,
         opened: 0,
-        rank: 41,
+        rank: 1,
         height: 1,
     },
     Entry {
-        form: Form::Choice(100, 253),
+        form: Form::Choice(253, 268),
         nullable: false,
         first: 144115188075790336,
         goes_on: 0,
         opened: 0,
-        rank: 40,
-        height: 1,
+        rank: 8,
+        height: 3,
     },
     Entry {
-        form: Form::Choice(103, 254),
+        form: Form::Choice(254, 257),
         nullable: false,
-        first: 144115188075724800,
+        first: 4294901760,
         goes_on: 0,
         opened: 0,
-        rank: 39,
-        height: 1,
+        rank: 6,
+        height: 2,
     },
     Entry {
-        form: Form::Choice(105, 255),
+        form: Form::Choice(100, 255),
         nullable: false,
-        first: 144115188075593728,
+        first: 983040,
         goes_on: 0,
         opened: 0,
-        rank: 38,
+        rank: 3,
         height: 1,
     },
     Entry {
-        form: Form::Choice(107, 256),
+        form: Form::Choice(103, 256),
         nullable: false,
-        first: 144115188075331584,
+        first: 917504,
         goes_on: 0,
         opened: 0,
-        rank: 37,
+        rank: 2,
         height: 1,
     },
     Entry {
-        form: Form::Choice(116, 257),
+        form: Form::Choice(105, 107),
         nullable: false,
-        first: 144115188074807296,
+        first: 786432,
         goes_on: 0,
         opened: 0,
-        rank: 36,
+        rank: 1,
         height: 1,
     },
     Entry {
-        form: Form::Choice(121, 258),
+        form: Form::Choice(258, 261),
         nullable: false,
-        first: 144115188073758720,
+        first: 4293918720,
         goes_on: 0,
         opened: 0,
-        rank: 35,
-        height: 1,
+        rank: 5,
+        height: 2,
     },
     Entry {
-        form: Form::Choice(123, 259),
+        form: Form::Choice(116, 259),
         nullable: false,
-        first: 144115188071661568,
+        first: 15728640,
         goes_on: 0,
         opened: 0,
-        rank: 34,
+        rank: 3,
         height: 1,
     },
     Entry {
-        form: Form::Choice(56, 260),
+        form: Form::Choice(121, 260),
         nullable: false,
-        first: 144115188067467264,
+        first: 14680064,
         goes_on: 0,
         opened: 0,
-        rank: 33,
+        rank: 2,
         height: 1,
     },
     Entry {
-        form: Form::Choice(125, 261),
+        form: Form::Choice(123, 56),
         nullable: false,
-        first: 144115188059078656,
+        first: 12582912,
         goes_on: 0,
         opened: 0,
-        rank: 32,
+        rank: 1,
         height: 1,
     },
     Entry {
-        form: Form::Choice(146, 262),
+        form: Form::Choice(262, 265),
         nullable: false,
-        first: 144115188042301440,
+        first: 4278190080,
         goes_on: 0,
         opened: 0,
-        rank: 31,
-        height: 1,
+        rank: 4,
+        height: 2,
     },
     Entry {
-        form: Form::Choice(148, 263),
+        form: Form::Choice(125, 263),
         nullable: false,
-        first: 144115188008747008,
+        first: 251658240,
         goes_on: 0,
         opened: 0,
-        rank: 30,
+        rank: 3,
         height: 1,
     },
     Entry {
-        form: Form::Choice(152, 264),
+        form: Form::Choice(146, 264),
         nullable: false,
-        first: 144115187941638144,
+        first: 234881024,
         goes_on: 0,
         opened: 0,
-        rank: 29,
+        rank: 2,
         height: 1,
     },
     Entry {
-        form: Form::Choice(155, 265),
+        form: Form::Choice(148, 152),
         nullable: false,
-        first: 144115187807420416,
+        first: 201326592,
         goes_on: 0,
         opened: 0,
-        rank: 28,
+        rank: 1,
         height: 1,
     },
     Entry {
-        form: Form::Choice(158, 266),
+        form: Form::Choice(155, 266),
         nullable: false,
-        first: 144115187538984960,
+        first: 4026531840,
         goes_on: 0,
         opened: 0,
-        rank: 27,
+        rank: 3,
         height: 1,
     },
     Entry {
-        form: Form::Choice(161, 267),
+        form: Form::Choice(158, 267),
         nullable: false,
-        first: 144115187002114048,
+        first: 3758096384,
         goes_on: 0,
         opened: 0,
-        rank: 26,
+        rank: 2,
         height: 1,
     },
     Entry {
-        form: Form::Choice(167, 268),
+        form: Form::Choice(161, 167),
         nullable: false,
-        first: 144115185928372224,
+        first: 3221225472,
         goes_on: 0,
         opened: 0,
-        rank: 25,
+        rank: 1,
         height: 1,
     },
     Entry {
-        form: Form::Choice(169, 269),
+        form: Form::Choice(269, 284),
         nullable: false,
         first: 144115183780888576,
         goes_on: 0,
         opened: 0,
-        rank: 24,
-        height: 1,
+        rank: 7,
+        height: 3,
     },
     Entry {
-        form: Form::Choice(79, 270),
+        form: Form::Choice(270, 273),
         nullable: false,
-        first: 144115179485921280,
+        first: 281470681743360,
         goes_on: 0,
         opened: 0,
-        rank: 23,
-        height: 1,
+        rank: 6,
+        height: 2,
     },
     Entry {
-        form: Form::Choice(178, 271),
+        form: Form::Choice(169, 271),
         nullable: false,
-        first: 144115170895986688,
+        first: 64424509440,
         goes_on: 0,
         opened: 0,
-        rank: 22,
+        rank: 3,
         height: 1,
     },
     Entry {
-        form: Form::Choice(183, 272),
+        form: Form::Choice(79, 272),
         nullable: false,
-        first: 144115153716117504,
+        first: 60129542144,
         goes_on: 0,
         opened: 0,
-        rank: 21,
+        rank: 2,
         height: 1,
     },
     Entry {
-        form: Form::Choice(192, 273),
+        form: Form::Choice(178, 183),
         nullable: false,
-        first: 144115119356379136,
+        first: 51539607552,
         goes_on: 0,
         opened: 0,
-        rank: 20,
+        rank: 1,
         height: 1,
     },
     Entry {
-        form: Form::Choice(195, 274),
+        form: Form::Choice(274, 277),
         nullable: false,
-        first: 144115050636902400,
+        first: 281406257233920,
         goes_on: 0,
         opened: 0,
-        rank: 19,
-        height: 1,
+        rank: 5,
+        height: 2,
     },
     Entry {
-        form: Form::Choice(198, 275),
+        form: Form::Choice(192, 275),
         nullable: false,
-        first: 144114913197948928,
+        first: 1030792151040,
         goes_on: 0,
         opened: 0,
-        rank: 18,
+        rank: 3,
         height: 1,
     },
     Entry {
-        form: Form::Choice(204, 276),
+        form: Form::Choice(195, 276),
         nullable: false,
-        first: 144114638320041984,
+        first: 962072674304,
         goes_on: 0,
         opened: 0,
-        rank: 17,
+        rank: 2,
         height: 1,
     },
     Entry {
-        form: Form::Choice(207, 277),
+        form: Form::Choice(198, 204),
         nullable: false,
-        first: 144114088564228096,
+        first: 824633720832,
         goes_on: 0,
         opened: 0,
-        rank: 16,
+        rank: 1,
         height: 1,
     },
     Entry {
-        form: Form::Choice(208, 278),
+        form: Form::Choice(278, 281),
         nullable: false,
-        first: 144112989052600320,
+        first: 280375465082880,
         goes_on: 0,
         opened: 0,
-        rank: 15,
-        height: 1,
+        rank: 4,
+        height: 2,
     },
     Entry {
-        form: Form::Choice(213, 279),
+        form: Form::Choice(207, 279),
         nullable: false,
-        first: 144110790029344768,
+        first: 16492674416640,
         goes_on: 0,
         opened: 0,
-        rank: 14,
+        rank: 3,
         height: 1,
     },
     Entry {
-        form: Form::Choice(216, 280),
+        form: Form::Choice(208, 280),
         nullable: false,
-        first: 144106391982833664,
+        first: 15393162788864,
         goes_on: 0,
         opened: 0,
-        rank: 13,
+        rank: 2,
         height: 1,
     },
     Entry {
-        form: Form::Choice(218, 281),
+        form: Form::Choice(213, 216),
         nullable: false,
-        first: 144097595889811456,
+        first: 13194139533312,
         goes_on: 0,
         opened: 0,
-        rank: 12,
+        rank: 1,
         height: 1,
     },
     Entry {
-        form: Form::Choice(118, 282),
+        form: Form::Choice(218, 282),
         nullable: false,
-        first: 144080003703767040,
+        first: 263882790666240,
         goes_on: 0,
         opened: 0,
-        rank: 11,
+        rank: 3,
         height: 1,
     },
     Entry {
-        form: Form::Choice(119, 283),
+        form: Form::Choice(118, 283),
         nullable: false,
-        first: 144044819331678208,
+        first: 246290604621824,
         goes_on: 0,
         opened: 0,
-        rank: 10,
+        rank: 2,
         height: 1,
     },
     Entry {
-        form: Form::Choice(185, 284),
+        form: Form::Choice(119, 185),
         nullable: false,
-        first: 143974450587500544,
+        first: 211106232532992,
         goes_on: 0,
         opened: 0,
-        rank: 9,
+        rank: 1,
         height: 1,
     },
     Entry {
-        form: Form::Choice(187, 285),
+        form: Form::Choice(285, 287),
         nullable: false,
         first: 143833713099145216,
         goes_on: 0,
         opened: 0,
-        rank: 8,
-        height: 1,
-    },
-    Entry {
-        form: Form::Choice(188, 286),
-        nullable: false,
-        first: 143552238122434560,
-        goes_on: 0,
-        opened: 0,
-        rank: 7,
-        height: 1,
-    },
-    Entry {
-        form: Form::Choice(200, 287),
-        nullable: false,
-        first: 142989288169013248,
-        goes_on: 0,
-        opened: 0,
-        rank: 6,
-        height: 1,
-    },
-    Entry {
-        form: Form::Choice(201, 288),
-        nullable: false,
-        first: 141863388262170624,
-        goes_on: 0,
-        opened: 0,
         rank: 5,
+        height: 2,
+    },
+    Entry {
+        form: Form::Choice(187, 286),
+        nullable: false,
+        first: 4222124650659840,
+        goes_on: 0,
+        opened: 0,
+        rank: 3,
         height: 1,
     },
     Entry {
-        form: Form::Choice(224, 289),
+        form: Form::Choice(188, 199),
+        nullable: false,
+        first: 3940649673949184,
+        goes_on: 0,
+        opened: 0,
+        rank: 2,
+        height: 1,
+    },
+    Entry {
+        form: Form::Choice(288, 111),
         nullable: false,
         first: 139611588448485376,
         goes_on: 0,
@@ -3393,27 +3384,27 @@ pub static UPF: [Entry; 292] = [
         height: 1,
     },
     Entry {
-        form: Form::Choice(225, 290),
+        form: Form::Choice(224, 289),
         nullable: false,
-        first: 135107988821114880,
+        first: 67553994410557440,
         goes_on: 0,
         opened: 0,
         rank: 3,
         height: 1,
     },
     Entry {
-        form: Form::Choice(129, 291),
+        form: Form::Choice(225, 290),
         nullable: false,
-        first: 126100789566373888,
+        first: 63050394783186944,
         goes_on: 0,
         opened: 0,
         rank: 2,
         height: 1,
     },
     Entry {
-        form: Form::Choice(136, 111),
+        form: Form::Choice(129, 136),
         nullable: false,
-        first: 108086391056891904,
+        first: 54043195528445952,
         goes_on: 0,
         opened: 0,
         rank: 1,

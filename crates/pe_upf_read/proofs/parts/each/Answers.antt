@@ -1,6 +1,5 @@
 use Rattle.std.proofs.Common.{◌≡◌, List, [], ◌∷◌, refl, ap, sym, ◌∙◌}
-use Rattle.std.specs.Prelude.{map}
-use Rattle.pe_grammar.specs.Derivation.{Derivation, derivation, repeated, done, more, once}
+use Rattle.pe_grammar.specs.Derivation.{Derivation, repeated, done, once}
 use Rattle.pe_grammar.proofs.Shapes.{repeat_is, once_is, element_smaller, option_smaller}
 use Rattle.pe_upf_read.specs.Parts.{each}
 use Rattle.pe_upf_read.proofs.Trees.{shown}

@@ -1,9 +1,5 @@
-use Rattle.std.proofs.Common.{◌≡◌, ℕ, true, refl, Some}
-use Rattle.pe_grammar.specs.Derivation.{Derivation}
-use Rattle.pe_grammar.specs.Grammar.{Derives}
+use Rattle.std.proofs.Common.{refl}
 use Rattle.pe_upf_read.specs.declared.table.TheConstants.{UPF, DOMAIN, INPUT_SUPPLY_PORT, ON_STATE, OUTPUT_SUPPLY_PORT, PST, STATE, AT_SWITCH_OPTIONS, AT_SWITCH_OPTIONS_MANY, AT_SWITCH_OPTION, AT_ROW_OPTIONS, AT_ROW_OPTIONS_MANY, AT_ROW_OPTION, AT_ISOLATION_OPTIONS, AT_ISOLATION_OPTIONS_MANY, AT_ISOLATION_OPTION, AT_RETENTION_OPTIONS, AT_RETENTION_OPTIONS_MANY, AT_RETENTION_OPTION}
-use Rattle.pe_upf_read.specs.Options.{has}
-use Rattle.pe_upf_read.specs.Parts.{each}
 use Rattle.pe_upf_read.proofs.Needed.{needed_found}
 use Rattle.pe_upf_read.proofs.reading.needed_options.Goals as goal
 

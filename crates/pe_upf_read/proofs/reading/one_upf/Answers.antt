@@ -5,7 +5,7 @@ use Rattle.pe_text.specs.declared.language.Lang.TheVariants.{Upf}
 use Rattle.pe_upf_read.specs.UpfGrammar.{upf_grammar}
 use Rattle.pe_upf_read.specs.Terminals.{terminals_of}
 use Rattle.pe_upf_read.specs.declared.table.TheConstants.{UPF, AT_FILE}
-use Rattle.pe_upf_read.proofs.Readings.{one_fault}
+use Rattle.pe_reader.proofs.Readings.{one_fault}
 use Rattle.pe_upf_read.proofs.Spellings.{one_intent, no_fault}
 use Rattle.pe_upf_read.proofs.reading.one_upf.Goals as goal
 

@@ -1,13 +1,13 @@
-use Rattle.std.proofs.Common.{◌≡◌, inr, Result, Ok, Err, ℕ, List}
+use Rattle.std.proofs.Common.{inr, Result, Ok, Err, ℕ, List}
 use Rattle.std.specs.Prelude.{MatchResult}
 use Rattle.pe_text.specs.declared.fault.ReadFault.{ReadFault}
 use Rattle.pe_text.specs.declared.language.Lang.TheVariants.{Upf}
 use Rattle.pe_upf_read.specs.declared.intent.Intent.{Intent}
 use Rattle.pe_upf_read.specs.declared.table.TheConstants.{UPF, AT_FILE}
-use Rattle.pe_upf_read.specs.Reading.{IsSyntaxFault}
+use Rattle.pe_reader.specs.Reading.{IsSyntaxFault}
 use Rattle.pe_upf_read.specs.Spelling.{IsUpf, IsUpfFault}
 use Rattle.pe_upf_read.specs.Terminals.{terminals_of}
-use Rattle.pe_upf_read.proofs.Readings.{few_tokens}
+use Rattle.pe_reader.proofs.Readings.{few_tokens}
 use Rattle.pe_upf_read.proofs.Spellings.{answered}
 use Rattle.pe_upf_read.proofs.reading.read_upf.Goals as goal
 
