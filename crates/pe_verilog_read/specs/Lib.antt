@@ -1,0 +1,2 @@
+pub mod VerilogGrammar
+pub mod Starts
