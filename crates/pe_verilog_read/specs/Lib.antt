@@ -1,2 +1,3 @@
 pub mod VerilogGrammar
 pub mod Starts
+pub mod Terminals

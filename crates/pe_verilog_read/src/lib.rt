@@ -3,4 +3,5 @@
 
 mod laws;
 mod parsing;
+mod terminal;
 mod verilog_table;
