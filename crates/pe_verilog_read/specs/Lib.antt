@@ -1,3 +1,4 @@
 pub mod VerilogGrammar
 pub mod Starts
 pub mod Terminals
+pub mod Numbers

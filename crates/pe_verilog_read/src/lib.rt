@@ -2,6 +2,7 @@
 #![tactic(auto)]
 
 mod laws;
+mod number;
 mod parsing;
 mod terminal;
 mod verilog_table;
