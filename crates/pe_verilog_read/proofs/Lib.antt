@@ -1,2 +1,4 @@
 pub mod Spellings
 pub mod Digits
+pub mod Terminals
+pub mod Shapes
