@@ -4,4 +4,10 @@ pub mod Halving
 pub mod Building
 pub mod Pieces
 pub mod NamesLemmas
-pub mod Answering
+pub mod Running
+pub mod Ways
+pub mod Spelling
+pub mod Tokens
+pub mod Scanning
+pub mod KnownKinds
+pub mod Outcomes

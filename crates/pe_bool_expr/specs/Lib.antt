@@ -7,4 +7,5 @@ pub mod Meaning
 pub mod Terminals
 pub mod Names
 pub mod Nesting
+pub mod Scan
 pub mod Reading

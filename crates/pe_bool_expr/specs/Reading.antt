@@ -47,24 +47,26 @@ pub record IsOf (style : Style) (names : List (List ℕ)) (text : List ℕ) (tok
 
 -- with the token that starts at this byte the tokens before it can't be gone on with, or they end too early
 pub record IsSyntax (style : Style) (text : List ℕ) (tokens : List Token) (at : ℕ) : Type 0 where
-  pub shallow : IsShallow style text tokens
   pub number : ℕ
   pub fault : IsFault (table_of style) 0 (terminals_from style text 0 tokens) number
   pub is : at ≡ start_of text tokens number
 
--- the first name that is not known starts at this byte
+-- the tokens have a derivation, and the first name that is not known starts at this byte
 pub record IsNoName (style : Style) (names : List (List ℕ)) (text : List ℕ) (tokens : List Token) (at : ℕ) : Type 0 where
-  pub shallow : IsShallow style text tokens
   pub derivation : Derivation
   pub parsed : IsParse style text tokens derivation
   pub unknown : first_unknown names text tokens ≡ Some at
 
--- the first token with which more than 64 are open starts at this byte
-abbrev pub IsDeep : Style → List ℕ → List Token → ℕ → Type 0
-IsDeep style text tokens at =
-    (t : Terminal) × (first_deep style (terminals_from style text 0 tokens) ≡ Some t) × (at ≡ start_of text tokens t.place)
+-- the tokens have a derivation and their names are known, and the first token with which more than 64 are open starts at this byte
+pub record IsDeep (style : Style) (names : List (List ℕ)) (text : List ℕ) (tokens : List Token) (at : ℕ) : Type 0 where
+  pub derivation : Derivation
+  pub parsed : IsParse style text tokens derivation
+  pub known : first_unknown names text tokens ≡ None
+  pub token : Terminal
+  pub deep : first_deep style (terminals_from style text 0 tokens) ≡ Some token
+  pub is : at ≡ start_of text tokens token.place
 
--- so many different names, and too many
+-- nothing is nested over 64, the names are known, and there are so many different ones, which is too many
 pub record IsInputs (style : Style) (names : List (List ℕ)) (text : List ℕ) (tokens : List Token) (count : ℕ) : Type 0 where
   pub shallow : IsShallow style text tokens
   pub derivation : Derivation
@@ -78,7 +80,7 @@ abbrev pub IsRefused : Style → List (List ℕ) → List ℕ → List Token →
 IsRefused style names text tokens Memory = Unit {0}
 IsRefused style names text tokens (Syntax at) = IsSyntax style text tokens at
 IsRefused style names text tokens (NoName at) = IsNoName style names text tokens at
-IsRefused style names text tokens (Deep at) = IsDeep style text tokens at
+IsRefused style names text tokens (Deep at) = IsDeep style names text tokens at
 IsRefused style names text tokens (Inputs count) = IsInputs style names text tokens count
 
 -- the text is the function e over the names
@@ -92,11 +94,20 @@ IsSyntaxAt style text at = IsBadAt (class_of style) text at ⊎ ((tokens : List 
 abbrev pub IsNoNameAt : Style → List (List ℕ) → List ℕ → ℕ → Type 0
 IsNoNameAt style names text at = (tokens : List Token) × IsCut (class_of style) text tokens × IsNoName style names text tokens at
 
-abbrev pub IsDeepAt : Style → List ℕ → ℕ → Type 0
-IsDeepAt style text at = (tokens : List Token) × IsCut (class_of style) text tokens × IsDeep style text tokens at
+abbrev pub IsDeepAt : Style → List (List ℕ) → List ℕ → ℕ → Type 0
+IsDeepAt style names text at = (tokens : List Token) × IsCut (class_of style) text tokens × IsDeep style names text tokens at
 
 abbrev pub HasInputs : Style → List (List ℕ) → List ℕ → ℕ → Type 0
 HasInputs style names text count = (tokens : List Token) × IsCut (class_of style) text tokens × IsInputs style names text tokens count
+
+-- what is said of a text by an answer: which function it is, or why it is none; nothing but a lack of memory is said by Memory
+abbrev pub IsOutcome : Style → List (List ℕ) → List ℕ → Result Expr ExprFault → Type 0
+IsOutcome style names text (Ok e) = IsFunction style names text e
+IsOutcome style names text (Err Memory) = ⊥
+IsOutcome style names text (Err (Syntax at)) = IsSyntaxAt style text at
+IsOutcome style names text (Err (NoName at)) = IsNoNameAt style names text at
+IsOutcome style names text (Err (Deep at)) = IsDeepAt style names text at
+IsOutcome style names text (Err (Inputs count)) = HasInputs style names text count
 
 -- the answer is e, unless memory ran out
 abbrev pub IsAnswered : Expr → Result Expr ExprFault → Type 0

@@ -12,6 +12,7 @@ mod liberty_table;
 mod names;
 mod nesting;
 mod reading;
+mod scan;
 mod style;
 mod terminal;
 mod upf_table;

@@ -182,37 +182,95 @@ fn a_name_is_its_first_place(rt: HostRuntime) -> Result<(), Fail> {
     Ok(())
 }
 
+/// One byte so many times, then a text, and another byte so many times.
+fn within(
+    alloc: Global,
+    before: u8,
+    open: u32,
+    middle: &str,
+    after: u8,
+    close: u32,
+) -> Result<Vec<u8>, AllocError> {
+    let mut text = Vec::new(alloc);
+    for _ in 0..open {
+        text.push(before)?;
+    }
+    for byte in middle.as_bytes() {
+        text.push(*byte)?;
+    }
+    for _ in 0..close {
+        text.push(after)?;
+    }
+    Ok(text)
+}
+
 #[test]
 fn nesting(rt: HostRuntime) -> Result<(), Fail> {
-    for marks in [64, 65] {
-        let mut text = Vec::new(rt.alloc());
-        for _ in 0..marks {
-            text.push(b'(')?;
-        }
-        text.push(b'A')?;
-        for _ in 0..marks {
-            text.push(b')')?;
-        }
-        let fault = read(rt.alloc(), Style::Liberty, text.as_slice()).err();
-        let deep = if marks == 64 {
-            None
-        } else {
-            Some(ExprFault::Deep { at: 64 })
-        };
-        assert_eq!(rt; fault, deep);
+    let (liberty, upf) = (Style::Liberty, Style::Upf);
+    let deep = Some(ExprFault::Deep { at: 64 });
+    let cases = [
+        (liberty, b'(', 64, "A", 64, None),
+        (liberty, b'(', 65, "A", 65, deep),
+        (liberty, b'(', 65, "", 0, Some(ExprFault::Syntax { at: 65 })),
+        (
+            liberty,
+            b'(',
+            65,
+            "A",
+            64,
+            Some(ExprFault::Syntax { at: 130 }),
+        ),
+        (
+            liberty,
+            b'(',
+            66,
+            "A",
+            67,
+            Some(ExprFault::Syntax { at: 133 }),
+        ),
+        (
+            liberty,
+            b'(',
+            65,
+            "E",
+            65,
+            Some(ExprFault::NoName { at: 65 }),
+        ),
+        (liberty, b'(', 65, "A B'", 65, deep),
+        (upf, b'(', 65, "A A", 65, Some(ExprFault::Syntax { at: 67 })),
+        (upf, b'(', 65, "A & ~A", 65, deep),
+        (upf, b'!', 64, "A", 0, None),
+        (upf, b'!', 65, "A", 0, deep),
+        (liberty, b'!', 65, "", 0, Some(ExprFault::Syntax { at: 65 })),
+        (
+            liberty,
+            b'!',
+            65,
+            "A",
+            1,
+            Some(ExprFault::Syntax { at: 66 }),
+        ),
+        (
+            liberty,
+            b'(',
+            1_000_000,
+            "",
+            0,
+            Some(ExprFault::Syntax { at: 1_000_000 }),
+        ),
+    ];
+    for (style, before, open, middle, close, fault) in cases {
+        let text = within(rt.alloc(), before, open, middle, b')', close)?;
+        let answer = read(rt.alloc(), style, text.as_slice()).err();
+        assert_eq!(rt; answer, fault, "{open} {middle} {close}");
     }
     // The marks before a parenthesis are open until it closes, and those of an operand until it ends.
-    let mut text = Vec::new(rt.alloc());
-    for _ in 0..40 {
+    let mut text = within(rt.alloc(), b'!', 40, "(", b'!', 23)?;
+    text.push(b'A')?;
+    for _ in 0..23 {
         text.push(b'!')?;
     }
-    text.push(b'(')?;
-    for _ in 0..2 {
-        for _ in 0..23 {
-            text.push(b'!')?;
-        }
-        text.push(b'A')?;
-    }
+    text.push(b'A')?;
     assert_eq!(rt;
         read(rt.alloc(), Style::Liberty, text.as_slice()).err(),
         Some(ExprFault::Syntax { at: 89 })
@@ -220,6 +278,12 @@ fn nesting(rt: HostRuntime) -> Result<(), Fail> {
     for _ in 0..24 {
         text.push(b'!')?;
     }
+    assert_eq!(rt;
+        read(rt.alloc(), Style::Liberty, text.as_slice()).err(),
+        Some(ExprFault::Syntax { at: 113 })
+    );
+    text.push(b'A')?;
+    text.push(b')')?;
     assert_eq!(rt;
         read(rt.alloc(), Style::Liberty, text.as_slice()).err(),
         Some(ExprFault::Deep { at: 112 })

@@ -1,8 +1,8 @@
-use Rattle.std.proofs.Common.{◌≡◌, ◌⊎◌, ◌≤◌, ℕ, length, List, Result, Ok, Err, inl, inr, refl, subst, sym, ap, ◌∙◌}
+use Rattle.std.proofs.Common.{◌≡◌, ◌≤◌, ℕ, length, List, Result, Ok, Err, inl, refl, subst, sym, ap, ◌∙◌}
 use Rattle.std.specs.Prelude.{IfOk, MatchResult}
-use Rattle.pe_text.specs.declared.fault.LexFault.{LexFault}
-use Rattle.pe_text.specs.declared.fault.LexFault.TheVariants.{Memory, Bad}
+use Rattle.pe_text.specs.declared.fault.LexFault.TheVariants.{Bad}
 use Rattle.pe_text.specs.declared.token.Token.{Token}
+use Rattle.pe_text.specs.Cut.{IsBadAt, IsCut}
 use Rattle.pe_text.proofs.Order.{in_order}
 use Rattle.pe_bool_expr.specs.declared.expr.Expr.{Expr}
 use Rattle.pe_bool_expr.specs.declared.fault.ExprFault.{ExprFault}
@@ -10,21 +10,9 @@ use Rattle.pe_bool_expr.specs.declared.fault.ExprFault.TheVariants.{Syntax}
 use Rattle.pe_bool_expr.specs.declared.style.Style.{Style}
 use Rattle.pe_bool_expr.specs.Functions.{different, pins_of}
 use Rattle.pe_bool_expr.specs.Reading.{IsOf, IsRefused}
-use Rattle.pe_bool_expr.proofs.Answering.{answered}
+use Rattle.pe_bool_expr.specs.Styles.{class_of}
+use Rattle.pe_bool_expr.proofs.Outcomes.{one_outcome, exact, answered}
 use Rattle.pe_bool_expr.proofs.reading.parse.Goals as goal
-
-abbrev Cut : Type 0
-Cut = Result (List Token) LexFault
-
--- an answer with tokens is these, where these or want of memory are all that may be answered
-same_tokens : (r : Cut) (tokens others : List Token) → r ≡ Ok tokens → (r ≡ Ok others) ⊎ (r ≡ Err Memory) → others ≡ tokens
-same_tokens r tokens others e (inl p) = cc
-same_tokens r tokens others e (inr p) = absurd (cc)
-
--- a bad token is no such answer
-not_bad : (r : Cut) (f : LexFault) (at : ℕ) (tokens : List Token) → f ≡ Bad at → r ≡ Err f → (r ≡ Ok tokens) ⊎ (r ≡ Err Memory) → ⊥
-not_bad r f at tokens e q (inl p) = cc
-not_bad r f at tokens e q (inr p) = cc
 
 -- the place of a fault
 same_place : (r : Result Expr ExprFault) (x at : ℕ) → r ≡ Err (Syntax x) → r ≡ Err (Syntax at) → x ≡ at
@@ -33,18 +21,22 @@ same_place r x at p q = cc
 pub read_tokens-answer-requires-clause-order : goal.read_tokens-answer-requires-clause-order
 read_tokens-answer-requires-clause-order c = rw c.as_slice.ensures (in_order c.class.result c.args.text.now c.in-Ok.tokens c.in-Ok.ensures.found)
 
+pub returns-in-Ok-clause-exact : goal.returns-in-Ok-clause-exact
+returns-in-Ok-clause-exact c =
+    let P : List Token → Type 0 = λ tokens. IsCut (class_of c.args.style) c.args.text.now tokens in
+    let cut = subst P (sym c.as_slice.ensures) (rw c.class.ensures at c.in-Ok.ensures.found) in
+    λ r p. exact c.args.style c.args.names.now c.args.text.now c.as_slice.result.now c.read_tokens-answer.result r cut c.read_tokens-answer.ensures p
+
 pub returns-in-Ok-clause-only : goal.returns-in-Ok-clause-only
-returns-in-Ok-clause-only c = λ e p.
-    let is_cut = rw (sym c.class.ensures) at p.1 in
-    let same = same_tokens (Ok c.in-Ok.tokens) c.in-Ok.tokens p.0 refl (c.in-Ok.ensures.only p.0 is_cut) in
-    let P : List Token → Type 0 = λ tokens. IsOf c.args.style c.args.names.now c.args.text.now tokens e in
-    answered c.args.style c.args.names.now c.args.text.now c.as_slice.result.now e c.read_tokens-answer.result (subst P (same ∙ sym c.as_slice.ensures) p.2) c.read_tokens-answer.ensures
+returns-in-Ok-clause-only c = λ e p. answered e c.read_tokens-answer.result (returns-in-Ok-clause-exact c (Ok e) p)
+
+pub returns-in-Err-Bad-clause-exact : goal.returns-in-Err-Bad-clause-exact
+returns-in-Err-Bad-clause-exact c =
+    let bad : IsBadAt (class_of c.args.style) c.args.text.now c.in-Err-Bad.at = rw (sym c.class.ensures) (c.in-Err-Bad.ensures.bad c.in-Err-Bad.at (ap (λ f. Err f) c.in-Err-Bad.field-0-is)) in
+    λ r p. inl (ap (λ v. Err (Syntax v)) c.in-Err-Bad.at-is ∙ one_outcome c.args.style c.args.names.now c.args.text.now (Err (Syntax c.in-Err-Bad.at)) r (inl bad) p)
 
 pub returns-in-Err-Bad-clause-only : goal.returns-in-Err-Bad-clause-only
-returns-in-Err-Bad-clause-only c = λ e p.
-    let is_cut = rw (sym c.class.ensures) at p.1 in
-    let f = c.in-Err-Bad.field-0 in
-    not_bad (Err f) f c.in-Err-Bad.at p.0 c.in-Err-Bad.field-0-is refl (c.in-Err-Bad.ensures.only p.0 is_cut)
+returns-in-Err-Bad-clause-only c = λ e p. answered e _ (returns-in-Err-Bad-clause-exact c (Ok e) p)
 
 pub returns-in-Err-Bad-clause-syntax : goal.returns-in-Err-Bad-clause-syntax
 returns-in-Err-Bad-clause-syntax c = λ at e.
