@@ -1,11 +1,11 @@
 -- Bits of numbers, one after the other.
-use Rattle.std.proofs.Common.{◌≡◌, ℕ, zero, suc, ◌+◌, ◌-◌, ◌*◌, ◌/◌, ◌%◌, ◌^◌, ◌<◌, ◌≤◌, Bool, true, false, cond, eqb, List, [], ◌∷◌, ◌++◌, length, get_or, drop, take, append_assoc, append-nil, add-one, refl, sym, ap, ◌∙◌, arith}
-use Rattle.std.proofs.Math.Nat.{add-mod, mod-mod, add-mod-mod}
+use Rattle.std.proofs.Common.{◌≡◌, ℕ, zero, suc, ◌+◌, ◌-◌, ◌*◌, ◌/◌, ◌%◌, ◌^◌, ◌<◌, ◌≤◌, Bool, true, false, cond, List, [], ◌∷◌, ◌++◌, length, get_or, drop, take, append_assoc, append-nil, refl, sym, ap, ◌∙◌, arith}
+use Rattle.std.proofs.Math.Nat.{add-mod, mod-mod}
 use Rattle.std.proofs.Math.Pow.{mod-mod-pow}
 use Rattle.std.proofs.lemmas.Nat.{mul-mod, mod-pow-add}
 use Rattle.std.proofs.lemmas.List.{take_all, take_more, drop_all}
 use Rattle.std.proofs.Math.Nat.{mod-eq_of_lt}
-use Rattle.std.specs.Prelude.{◌==◌, slice_index_or}
+use Rattle.std.specs.Prelude.{◌==◌}
 use Rattle.pe_verilog_ast.specs.declared.number.Digit.{Digit}
 use Rattle.pe_verilog_ast.specs.declared.number.Digit.TheVariants.{One, Zero}
 use Rattle.pe_verilog_read.specs.Numbers.{bit_of, bits_of, grown_of, value_of, digit_bits, digits_bits, fitted}

@@ -9,13 +9,12 @@ use Rattle.pe_grammar.proofs.Lists.{each_value}
 use Rattle.pe_verilog_ast.specs.declared.expression.Ex.{Ex}
 use Rattle.pe_verilog_ast.specs.declared.expression.Ex.TheVariants.{Number, Choose, Join, Repeat, Unary}
 use Rattle.pe_verilog_ast.specs.declared.expression.Operand.{Operand}
-use Rattle.pe_verilog_ast.specs.declared.expression.Select.{Select}
 use Rattle.pe_grammar.specs.declared.terminal.Token.{Token}
 use Rattle.pe_verilog_ast.specs.declared.operator.UnOp.{UnOp}
 use Rattle.pe_verilog_read.specs.Leaves.{token_of, sign_of}
 use Rattle.pe_verilog_read.specs.Numbers.{digits_of}
 use Rattle.pe_verilog_read.specs.Copies.{IsRung, AreRungs}
-use Rattle.pe_verilog_read.specs.Expressions.{ex_of, left_of, right_of, levels, level_of, operands_of, operand_of, chained, primary_of, group_of, braces_of, inner_of, list_of, others_of, behind_of, simple_of, named_of, select_of, upto_of, selected}
+use Rattle.pe_verilog_read.specs.Expressions.{ex_of, left_of, right_of, levels, level_of, operands_of, operand_of, chained, primary_of, group_of, braces_of, inner_of, list_of, others_of, behind_of, simple_of, select_of, upto_of, selected}
 
 -- what is answered is what is wanted, since the two are equal
 pub ok_as : {A E : Type 0} (r : Result A E) (x y : A) → x ≡ y → IfOk r (λ e. e ≡ x) → IfOk r (λ e. e ≡ y)
@@ -124,3 +123,6 @@ select_shape w d o r a s u k first second e f g h i =
 
 pub upto_shape : (w : ℕ → List ℕ) (d b k x : Derivation) (v : Ex) → d ≡ left b → b ≡ pair k x → v ≡ ex_of w x → Some v ≡ upto_of w d
 upto_shape w d b k x v e f h = ap Some h ∙ sym (ap (upto_of w) (e ∙ ap left f))
+
+pub condition_shape : (w : ℕ → List ℕ) (d a b x k : Derivation) (v : Ex) → d ≡ pair a b → b ≡ pair x k → v ≡ ex_of w x → v ≡ group_of w d
+condition_shape w d a b x k v e f h = h ∙ sym (ap (group_of w) (e ∙ ap (pair a) f))

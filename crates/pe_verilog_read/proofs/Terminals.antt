@@ -1,5 +1,5 @@
 -- Trees that are no terminals.
-use Rattle.std.proofs.Common.{◌≡◌, ℕ, List, [], ◌∷◌, refl, ap, sym, ◌∙◌}
+use Rattle.std.proofs.Common.{◌≡◌, List, [], ◌∷◌, refl, ap, sym, ◌∙◌}
 use Rattle.pe_grammar.specs.declared.terminal.Token.{Token}
 use Rattle.pe_grammar.specs.declared.tree.Tree.{Tree}
 use Rattle.pe_grammar.specs.declared.tree.Tree.TheVariants.{Pair, Repeat, Present}

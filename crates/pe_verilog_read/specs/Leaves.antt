@@ -1,5 +1,5 @@
 -- Terminals in derivations: their tokens and words, and the operators that they are.
-use Rattle.std.specs.Prelude.{ℕ, ◌==◌, Bool, List, [], if◌then◌else◌}
+use Rattle.std.specs.Prelude.{ℕ, ◌==◌, List, if◌then◌else◌}
 use Rattle.pe_grammar.specs.declared.terminal.Token.{Token}
 use Rattle.pe_grammar.specs.Derivation.{Derivation, leaf, left, right}
 use Rattle.pe_verilog_ast.specs.declared.operator.UnOp.{UnOp}

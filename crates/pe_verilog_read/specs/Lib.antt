@@ -6,3 +6,11 @@ pub mod Words
 pub mod Leaves
 pub mod Expressions
 pub mod Copies
+pub mod Lists
+pub mod Targets
+pub mod Statements
+pub mod Arms
+pub mod Items
+pub mod Modules
+pub mod Plain
+pub mod Reading

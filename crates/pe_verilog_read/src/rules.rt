@@ -1,5 +1,6 @@
 //! The three copies of the rules of expressions: where each has its rules in the table.
 
+ghost use Rattle.std.specs.Prelude.{◌≡◌};
 ghost use Rattle.pe_verilog_read.specs.Copies.{IsCopy};
 ghost use Rattle.pe_verilog_read.specs.declared.verilog_table.TheConstants.{VERILOG};
 
@@ -81,7 +82,12 @@ pub(crate) struct Rules {
 
 /// The rules of expressions.
 pub(crate) fn whole() -> Rules
-    ensures { IsCopy VERILOG result }
+    ensures copy { IsCopy VERILOG result }
+    ensures ex { result.ex ≡ AT_EX }
+    ensures list { result.list ≡ AT_LIST }
+    ensures sides { result.sides ≡ AT_SIDES }
+    ensures select { result.select ≡ AT_SELECT }
+    ensures named { result.named ≡ AT_OPERAND_PART_2 }
 {
     Rules {
         scope: Scope::Whole,
@@ -118,7 +124,12 @@ pub(crate) fn whole() -> Rules
 
 /// The rules of labels of `casez`.
 pub(crate) fn label() -> Rules
-    ensures { IsCopy VERILOG result }
+    ensures copy { IsCopy VERILOG result }
+    ensures ex { result.ex ≡ AT_LABEL_EX }
+    ensures list { result.list ≡ AT_LABEL_LIST }
+    ensures sides { result.sides ≡ AT_LABEL_SIDES }
+    ensures select { result.select ≡ AT_LABEL_SELECT }
+    ensures named { result.named ≡ AT_LABEL_OPERAND_PART_2 }
 {
     Rules {
         scope: Scope::Label,
@@ -155,7 +166,12 @@ pub(crate) fn label() -> Rules
 
 /// The rules of expressions without names.
 pub(crate) fn constant() -> Rules
-    ensures { IsCopy VERILOG result }
+    ensures copy { IsCopy VERILOG result }
+    ensures ex { result.ex ≡ AT_CONSTANT_EX }
+    ensures list { result.list ≡ AT_CONSTANT_LIST }
+    ensures sides { result.sides ≡ AT_CONSTANT_SIDES }
+    ensures select { result.select ≡ AT_CONSTANT_SELECT }
+    ensures named { result.named ≡ AT_SIMPLE_OPERAND_PART_2 }
 {
     Rules {
         scope: Scope::Constant,

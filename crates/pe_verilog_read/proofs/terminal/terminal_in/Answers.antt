@@ -1,4 +1,4 @@
-use Rattle.std.proofs.Common.{ℕ, List, [], Bor, refl}
+use Rattle.std.proofs.Common.{ℕ, List, [], Bor}
 use Rattle.std.proofs.lemmas.List.{drop_all}
 use Rattle.pe_verilog_read.proofs.Spellings.{spelling_hit, spelling_miss, spelling_none}
 use Rattle.pe_verilog_read.proofs.terminal.terminal_in.Goals as goal
