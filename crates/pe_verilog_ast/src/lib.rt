@@ -1,0 +1,21 @@
+//! Syntax trees of Verilog (IEEE 1364), of RTL and of netlists.
+//!
+//! A tree has the order and the names of its text. Parentheses leave no node. Contracts see names as bytes and lists as
+//! lists, so that a tree equals the tree of a definition.
+#![tactic(auto)]
+
+mod expression;
+mod item;
+mod module;
+mod number;
+mod operator;
+mod statement;
+mod target;
+
+pub use expression::{Ex, Operand, Select};
+pub use item::{Item, Pins};
+pub use module::{Dir, HeadPort, Module, NetKind, Param, Port, Range, Source};
+pub use number::Digit;
+pub use operator::{BinOp, UnOp};
+pub use statement::{Arm, Edge, Event, Stmt};
+pub use target::Target;

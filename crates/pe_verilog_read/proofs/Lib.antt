@@ -1,0 +1,6 @@
+pub mod Spellings
+pub mod Digits
+pub mod Terminals
+pub mod Shapes
+pub mod Building
+pub mod Answering

@@ -1,0 +1,16 @@
+pub mod VerilogGrammar
+pub mod Starts
+pub mod Terminals
+pub mod Numbers
+pub mod Words
+pub mod Leaves
+pub mod Expressions
+pub mod Copies
+pub mod Lists
+pub mod Targets
+pub mod Statements
+pub mod Arms
+pub mod Items
+pub mod Modules
+pub mod Plain
+pub mod Reading
