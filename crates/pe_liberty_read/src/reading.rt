@@ -6,6 +6,7 @@ ghost use Rattle.pe_grammar.specs.Grammar.{Derives};
 ghost use Rattle.pe_grammar.specs.Written.{IsOf, rule};
 ghost use Rattle.pe_text.specs.declared.fault.ReadFault.{ReadFault};
 ghost use Rattle.pe_text.specs.declared.fault.ReadFault.TheVariants.{Memory};
+ghost use Rattle.pe_liberty_read.specs.Format.{IsByFormat};
 ghost use Rattle.pe_liberty_read.specs.LibertyGrammar.{liberty_grammar};
 ghost use Rattle.pe_liberty_read.specs.Reading.{IsAnswer, IsLiberty, IsReadFault};
 ghost use Rattle.pe_liberty_read.specs.declared.tree.Group.{Group};
@@ -56,4 +57,10 @@ pub fn one_liberty()
     ensures written { (d : Derivation) → Derives LIBERTY AT_LIBRARY d ↔ IsOf liberty_grammar (rule 0) d }
 {
     one_reading();
+}
+
+/// The grammar, which tells statements apart by one token, has the texts of the rules that the format states, and their groups.
+pub fn format_law()
+    ensures by_rules { (text : List ℕ) (g : Group) → IsLiberty text g ↔ IsByFormat text g }
+{
 }
