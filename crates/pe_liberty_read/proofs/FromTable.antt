@@ -56,7 +56,7 @@ same_value p t e (inl q) = inl (same_word p t e q)
 same_value p t e (inr q) = inr (e ∙ q)
 
 -- behind a word no list goes on
-quiet : (t : Terminal) → IsValue t → goes_on_values t.kind ≡ false
+pub quiet : (t : Terminal) → IsValue t → goes_on_values t.kind ≡ false
 quiet t (inl (inl q)) = ap goes_on_values q
 quiet t (inl (inr q)) = ap goes_on_values q
 quiet t (inr q) = ap goes_on_values q

@@ -4,3 +4,4 @@ pub mod Walk
 pub mod Inverse
 pub mod FromTable
 pub mod GroupFromTable
+pub mod ToTable
