@@ -1,21 +1,16 @@
 -- What the grammar derives from the tokens is what the rules of the format have.
-use Rattle.std.proofs.Common.{◌≡◌, ◌≢◌, ℕ, zero, suc, ◌+◌, ◌<◌, ◌≤◌, Bool, true, false, List, [], ◌∷◌, ◌++◌, refl, ap, sym, ◌∙◌, subst, arith, inl, inr, append_assoc, append-nil}
-use Rattle.std.specs.Prelude.{◌⊎◌, map}
+use Rattle.std.proofs.Common.{◌≡◌, ◌≢◌, ℕ, Bool, true, false, List, [], ◌∷◌, ◌++◌, refl, ap, sym, ◌∙◌, subst, arith, inl, inr, append_assoc}
 use Rattle.pe_grammar.specs.declared.terminal.Token.{Token as Terminal}
 use Rattle.pe_grammar.specs.Derivation.{Derivation, leaf, nothing, pair, left, right, done, more, present, absent, once, text as spelled}
-use Rattle.pe_grammar.specs.Written.{Written, word, rule, empty, both, either, many, body, IsOf}
+use Rattle.pe_grammar.specs.Written.{word, rule, empty, both, either, many, IsOf}
 use Rattle.pe_reader.specs.Words.{word_at}
 use Rattle.pe_text.specs.declared.token.Token.{Token}
-use Rattle.pe_liberty_read.specs.Contents.{contents_of}
-use Rattle.pe_liberty_read.specs.Format.{IsWord, IsValue, AreValues, IsStop, IsEnding, IsMore, none, next, behind_comma, IsArguments, no_argument, arguments, words_of, IsList, list, IsGroup, group, IsStatement, inner_group, simple, complex, IsContents, nothing_more, unended, one_more}
+use Rattle.pe_liberty_read.specs.Format.{IsWord, IsValue, AreValues, IsMore, none, next, behind_comma, IsArguments, no_argument, arguments, words_of}
 use Rattle.pe_liberty_read.specs.LibertyGrammar.{liberty_grammar}
-use Rattle.pe_liberty_read.specs.Meaning.{number_of, name_of, each_name, names_of, attr_with, group_with, statement_of, meaning_of, body_of, braced_of, statements_of, group_of}
+use Rattle.pe_liberty_read.specs.Meaning.{number_of, each_name, names_of}
 use Rattle.pe_liberty_read.specs.Terminals.{goes_on_values}
-use Rattle.pe_liberty_read.specs.declared.statement.Statement.{Statement}
-use Rattle.pe_liberty_read.specs.declared.statement.Statement.TheVariants as statement
-use Rattle.pe_liberty_read.specs.declared.tree.Group.{Group}
-use Rattle.pe_liberty_read.proofs.Inverse.{size, Pair, Side, More, in_pair, in_side, in_leaf, in_nothing, in_more}
-use Rattle.pe_liberty_read.proofs.Walk.{walked, walk, stays, is_value, no_word, First, first}
+use Rattle.pe_liberty_read.proofs.Inverse.{in_pair, in_side, in_leaf, in_nothing}
+use Rattle.pe_liberty_read.proofs.Walk.{walk, stays, is_value, first}
 
 -- one terminal is the whole of a derivation
 pub record One (is_kind : Terminal → Type 0) (d : Derivation) : Type 0 where

@@ -1,20 +1,19 @@
 -- The statements and the groups that the grammar derives are those that the rules of the format have.
-use Rattle.std.proofs.Common.{◌≡◌, ◌≢◌, ℕ, zero, suc, ◌+◌, ◌<◌, ◌≤◌, Bool, true, false, List, [], ◌∷◌, ◌++◌, refl, ap, sym, ◌∙◌, subst, arith, inl, inr, append_assoc, append-nil}
-use Rattle.std.specs.Prelude.{◌⊎◌, map}
+use Rattle.std.proofs.Common.{◌≡◌, ℕ, zero, suc, ◌+◌, ◌<◌, Bool, true, false, List, [], ◌∷◌, ◌++◌, refl, ap, sym, ◌∙◌, subst, arith, inl, inr, append_assoc, append-nil}
+use Rattle.std.specs.Prelude.{◌⊎◌}
 use Rattle.pe_grammar.specs.declared.terminal.Token.{Token as Terminal}
 use Rattle.pe_grammar.specs.Derivation.{Derivation, leaf, nothing, pair, left, right, done, more, text as spelled}
-use Rattle.pe_grammar.specs.Written.{Written, word, rule, empty, both, either, many, body, IsOf}
+use Rattle.pe_grammar.specs.Written.{word, rule, empty, both, either, many, IsOf}
 use Rattle.pe_text.specs.declared.token.Token.{Token}
 use Rattle.pe_liberty_read.specs.Contents.{contents_of}
-use Rattle.pe_liberty_read.specs.Format.{IsWord, IsValue, AreValues, IsStop, IsEnding, IsArguments, words_of, IsList, list, IsGroup, group, IsStatement, inner_group, simple, complex, IsContents, nothing_more, unended, one_more}
+use Rattle.pe_liberty_read.specs.Format.{IsWord, IsEnding, IsArguments, words_of, IsList, list, IsGroup, group, IsStatement, inner_group, simple, complex, IsContents, nothing_more, unended, one_more}
 use Rattle.pe_liberty_read.specs.LibertyGrammar.{liberty_grammar}
 use Rattle.pe_liberty_read.specs.Meaning.{number_of, names_of, attr_with, group_with, statement_of, meaning_of, body_of, braced_of, statements_of, group_of}
 use Rattle.pe_liberty_read.specs.declared.statement.Statement.{Statement}
 use Rattle.pe_liberty_read.specs.declared.statement.Statement.TheVariants as statement
-use Rattle.pe_liberty_read.specs.declared.tree.Group.{Group}
-use Rattle.pe_liberty_read.proofs.Inverse.{size, Pair, Side, More, in_pair, in_side, in_leaf, in_nothing, in_more}
-use Rattle.pe_liberty_read.proofs.Walk.{walked, walk, stays, no_word, First, first}
-use Rattle.pe_liberty_read.proofs.FromTable.{One, name_leaf, Ahead, IsMark, read_mark, read_word, read_listed, Values, read_values, Args, read_arguments}
+use Rattle.pe_liberty_read.proofs.Inverse.{size, in_pair, in_side, in_leaf, in_nothing, in_more}
+use Rattle.pe_liberty_read.proofs.Walk.{walk, no_word, first}
+use Rattle.pe_liberty_read.proofs.FromTable.{name_leaf, Ahead, IsMark, read_mark, read_word, read_listed, read_values, read_arguments}
 
 -- a word and what stands in parentheses behind it
 pub record Head (text : List ℕ) (tokens : List Token) (t : Terminal) (names : List (List ℕ)) (ps rest : List Terminal) : Type 0 where
@@ -166,7 +165,7 @@ read_group text tokens t names z is_z ih ps rest h =
     let ss = braced_of text tokens z in
     let g = group h.name h.opening h.between h.args h.close b.begin b.inner ss b.end b.ending h.of_word h.opens h.are h.closes b.begins b.are b.ends b.is_ending in
     let same : group_with text tokens h.name.place (words_of text tokens h.args) (contents_of ss) ≡ group_with text tokens t.place names (contents_of ss) =
-      ap (λ n. group_with text tokens n (words_of text tokens h.args) (contents_of ss)) (sym h.place) ∙ ap (λ ns. group_with text tokens t.place ns (contents_of ss)) (sym h.named) in
+    ap (λ n. group_with text tokens n (words_of text tokens h.args) (contents_of ss)) (sym h.place) ∙ ap (λ ns. group_with text tokens t.place ns (contents_of ss)) (sym h.named) in
     record {
       part = h.name ∷ h.opening ∷ (h.between ++ (h.close ∷ b.begin ∷ (b.inner ++ (b.end ∷ b.ending))));
       others = b.others;
@@ -199,9 +198,9 @@ read_body text tokens t names z is_z ih ps rest h = elim (in_side liberty_gramma
       let part = h2.name ∷ h2.opening ∷ (h2.between ++ (h2.close ∷ a.ending)) in
       let made : IsStatement text tokens part (statement.Attribute (attr_with text tokens h2.name.place (words_of text tokens h2.args))) = complex h2.name h2.opening h2.between h2.args h2.close a.ending h2.of_word h2.opens h2.are h2.closes a.ends in
       let same : statement.Attribute (attr_with text tokens h2.name.place (words_of text tokens h2.args)) ≡ body_of text tokens t.place names z =
-        ap (λ n. statement.Attribute (attr_with text tokens n (words_of text tokens h2.args))) (sym h2.place)
-        ∙ ap (λ ns. statement.Attribute (attr_with text tokens t.place ns)) (sym h2.named)
-        ∙ sym (ap (body_of text tokens t.place names) s.is) in
+      ap (λ n. statement.Attribute (attr_with text tokens n (words_of text tokens h2.args))) (sym h2.place)
+      ∙ ap (λ ns. statement.Attribute (attr_with text tokens t.place ns)) (sym h2.named)
+      ∙ sym (ap (body_of text tokens t.place names) s.is) in
       record {
         part = part;
         others = a.others;
@@ -223,9 +222,9 @@ read_list text tokens t c v vs is_t is_c is_v is_vs ps rest e =
     let part = n.token ∷ k.token ∷ w.token ∷ ws.values in
     let made : IsList text tokens part (statement.Attribute (attr_with text tokens n.token.place (words_of text tokens (w.token ∷ ws.values)))) = list n.token k.token w.token ws.values n.kind k.kind w.kind ws.are in
     let named : names_of text tokens (pair (leaf v) vs) ≡ words_of text tokens (w.token ∷ ws.values) =
-      ap (λ m. names_of text tokens (pair (leaf (record { kind = v.kind; place = m })) vs)) w.place ∙ ap (λ xs. names_of text tokens (pair (leaf w.token) done) ++ xs) ws.named in
+    ap (λ m. names_of text tokens (pair (leaf (record { kind = v.kind; place = m })) vs)) w.place ∙ ap (λ xs. names_of text tokens (pair (leaf w.token) done) ++ xs) ws.named in
     let same : statement.Attribute (attr_with text tokens n.token.place (words_of text tokens (w.token ∷ ws.values))) ≡ statement.Attribute (attr_with text tokens t.place (names_of text tokens (pair (leaf v) vs))) =
-      ap (λ m. statement.Attribute (attr_with text tokens m (words_of text tokens (w.token ∷ ws.values)))) (sym n.place) ∙ ap (λ ns. statement.Attribute (attr_with text tokens t.place ns)) (sym named) in
+    ap (λ m. statement.Attribute (attr_with text tokens m (words_of text tokens (w.token ∷ ws.values)))) (sym n.place) ∙ ap (λ ns. statement.Attribute (attr_with text tokens t.place ns)) (sym named) in
     record {
       part = part;
       others = ws.others;
@@ -249,7 +248,7 @@ read_stop text tokens s d h ps rest a = elim (in_side liberty_grammar (rule 6) (
         let whole : d ≡ left (right (leaf l.0)) = x.is ∙ ap left y.is ∙ ap (λ z. left (right z)) l.1 in
         let k = read_mark true false 11 l.0 a.others rest l.2 (λ z. omega arith) (λ z. omega arith) refl (a.goes_on ∙ ap (λ z. spelled z ++ rest) whole) in
         inl (record { part = a.part ++ (k.token ∷ []); others = k.others; is = a.is ∙ ap (λ xs. a.part ++ xs) k.is ∙ sym (append_assoc a.part (k.token ∷ []) k.others); are = simple a.part s k.token a.are (inr k.kind); goes_on = k.goes_on })
-    ]
+  ]
   | inr x ↦
       let whole : d ≡ right nothing = x.is ∙ ap right (in_nothing liberty_grammar empty x.side refl x.of_side) in
       inr (record { part = a.part; others = a.others; is = a.is; are = a.are; goes_on = a.goes_on ∙ ap (λ z. spelled z ++ rest) whole })
@@ -267,11 +266,11 @@ read_simple text tokens n x is_n is_x ps rest e =
     let values : q.one ≡ pair (leaf v.0) vs.two = vs.is ∙ ap (λ y. pair y vs.two) v.1 in
     let whole : x ≡ pair (leaf c.0) (pair (pair (leaf v.0) vs.two) q.two) = p.is ∙ ap (λ y. pair y p.two) c.1 ∙ ap (pair (leaf c.0)) (q.is ∙ ap (λ y. pair y q.two) values) in
     let e2 : walk false ps ≡ t.token ∷ c.0 ∷ v.0 ∷ (spelled vs.two ++ (spelled q.two ++ rest)) =
-      e ∙ ap (λ y. (spelled n ++ spelled y) ++ rest) whole ∙ ap (λ xs. (xs ++ (c.0 ∷ v.0 ∷ (spelled vs.two ++ spelled q.two))) ++ rest) t.is ∙ ap (λ xs. t.token ∷ c.0 ∷ v.0 ∷ xs) (append_assoc (spelled vs.two) (spelled q.two) rest) in
+    e ∙ ap (λ y. (spelled n ++ spelled y) ++ rest) whole ∙ ap (λ xs. (xs ++ (c.0 ∷ v.0 ∷ (spelled vs.two ++ spelled q.two))) ++ rest) t.is ∙ ap (λ xs. t.token ∷ c.0 ∷ v.0 ∷ xs) (append_assoc (spelled vs.two) (spelled q.two) rest) in
     let a = read_list text tokens t.token c.0 v.0 vs.two t.kind c.2 v.2 vs.of_two ps (spelled q.two ++ rest) e2 in
     let s = statement.Attribute (attr_with text tokens t.token.place (names_of text tokens (pair (leaf v.0) vs.two))) in
     let same : s ≡ meaning_of text tokens (number_of n) (left x) =
-      ap (λ m. statement.Attribute (attr_with text tokens m (names_of text tokens (pair (leaf v.0) vs.two)))) (sym t.place) ∙ sym (ap (λ y. meaning_of text tokens (number_of n) (left y)) whole) in
+    ap (λ m. statement.Attribute (attr_with text tokens m (names_of text tokens (pair (leaf v.0) vs.two)))) (sym t.place) ∙ sym (ap (λ y. meaning_of text tokens (number_of n) (left y)) whole) in
     subst (λ y. StatementRead text tokens y ps rest) same (read_stop text tokens s q.two q.of_two ps rest a)
 
 read_complex : (text : List ℕ) (tokens : List Token) (n x : Derivation) → IsOf liberty_grammar (rule 12) n → IsOf liberty_grammar (both (word 4) (both (rule 9) (both (word 5) (rule 7)))) x → ReadsIn text tokens x → (ps rest : List Terminal) →
@@ -285,13 +284,13 @@ read_complex text tokens n x is_n is_x ih ps rest e =
     let t = name_leaf n is_n in
     let whole : x ≡ pair (leaf o.0) (pair q.one (pair (leaf c.0) r.two)) = p.is ∙ ap (λ y. pair y p.two) o.1 ∙ ap (pair (leaf o.0)) (q.is ∙ ap (pair q.one) (r.is ∙ ap (λ y. pair y r.two) c.1)) in
     let e2 : walk false ps ≡ t.token ∷ o.0 ∷ (spelled q.one ++ (c.0 ∷ (spelled r.two ++ rest))) =
-      e ∙ ap (λ y. (spelled n ++ spelled y) ++ rest) whole ∙ ap (λ xs. (xs ++ (o.0 ∷ (spelled q.one ++ (c.0 ∷ spelled r.two)))) ++ rest) t.is ∙ ap (λ xs. t.token ∷ o.0 ∷ xs) (append_assoc (spelled q.one) (c.0 ∷ spelled r.two) rest) in
+    e ∙ ap (λ y. (spelled n ++ spelled y) ++ rest) whole ∙ ap (λ xs. (xs ++ (o.0 ∷ (spelled q.one ++ (c.0 ∷ spelled r.two)))) ++ rest) t.is ∙ ap (λ xs. t.token ∷ o.0 ∷ xs) (append_assoc (spelled q.one) (c.0 ∷ spelled r.two) rest) in
     let h = read_head text tokens t.token o.0 q.one c.0 t.kind o.2 q.of_one c.2 ps (spelled r.two ++ rest) e2 in
     let smaller : size r.two < size x = let z : size x ≡ 1 + (size q.one + (1 + size r.two + 1) + 1) + 1 = ap size whole in omega arith in
     let ih2 : ReadsIn text tokens r.two = λ y l. ih y (let m : size y < size r.two = l in omega arith) in
     let a = read_body text tokens t.token (names_of text tokens q.one) r.two r.of_two ih2 ps rest h in
     let same : body_of text tokens t.token.place (names_of text tokens q.one) r.two ≡ meaning_of text tokens (number_of n) (right x) =
-      ap (λ m. body_of text tokens m (names_of text tokens q.one) r.two) (sym t.place) ∙ sym (ap (λ y. meaning_of text tokens (number_of n) (right y)) whole) in
+    ap (λ m. body_of text tokens m (names_of text tokens q.one) r.two) (sym t.place) ∙ sym (ap (λ y. meaning_of text tokens (number_of n) (right y)) whole) in
     subst (λ y. StatementRead text tokens y ps rest) same (inl a)
 
 read_statement : (text : List ℕ) (tokens : List Token) (d : Derivation) → IsOf liberty_grammar (rule 3) d → ReadsIn text tokens d → (ps rest : List Terminal) →

@@ -1,15 +1,14 @@
 -- What the rules of the format have is what the grammar derives from the tokens.
-use Rattle.std.proofs.Common.{◌≡◌, ◌≢◌, ℕ, zero, suc, ◌+◌, Bool, true, false, List, [], ◌∷◌, ◌++◌, Some, refl, ap, sym, ◌∙◌, subst, arith, inl, inr, append_assoc, append-nil}
-use Rattle.std.specs.Prelude.{◌⊎◌, map}
+use Rattle.std.proofs.Common.{◌≡◌, ℕ, Bool, true, false, List, [], ◌∷◌, ◌++◌, Some, refl, ap, sym, ◌∙◌, inl, inr, append_assoc, append-nil}
 use Rattle.pe_grammar.specs.declared.terminal.Token.{Token as Terminal}
 use Rattle.pe_grammar.specs.Derivation.{Derivation, leaf, nothing, pair, left, right, done, more, text as spelled, LeavesOut}
-use Rattle.pe_grammar.specs.Written.{Written, word, rule, empty, both, either, many, body, IsOf}
+use Rattle.pe_grammar.specs.Written.{Written, word, rule, empty, both, either, many, IsOf}
 use Rattle.pe_reader.specs.Words.{word_at}
 use Rattle.pe_text.specs.declared.token.Token.{Token}
 use Rattle.pe_liberty_read.specs.Contents.{contents_of}
 use Rattle.pe_liberty_read.specs.Format.{BeginsWithLibrary, IsWord, IsValue, AreValues, IsStop, IsEnding, IsMore, none, next, behind_comma, IsArguments, no_argument, arguments, words_of, IsList, list, IsGroup, group, IsStatement, inner_group, simple, complex, IsContents, nothing_more, unended, one_more}
 use Rattle.pe_liberty_read.specs.LibertyGrammar.{liberty_grammar}
-use Rattle.pe_liberty_read.specs.Meaning.{number_of, each_name, names_of, attr_with, group_with, statement_of, meaning_of, body_of, braced_of, statements_of, group_of}
+use Rattle.pe_liberty_read.specs.Meaning.{number_of, each_name, names_of, attr_with, group_with, statement_of, body_of, braced_of, statements_of, group_of}
 use Rattle.pe_liberty_read.specs.Terminals.{goes_on_values}
 use Rattle.pe_liberty_read.specs.declared.statement.Statement.{Statement}
 use Rattle.pe_liberty_read.specs.declared.statement.Statement.TheVariants as statement
@@ -94,8 +93,8 @@ make_more text tokens us args (behind_comma c t ts others e v m) =
       shut = shut_more one r.made shut_one r.shut;
       means = ap (λ n. word_at text tokens n ∷ each_name text tokens r.made) a.means ∙ ap (λ ns. word_at text tokens t.place ∷ ns) r.means;
       walks = λ rest.
-        plain_step c false (t ∷ (ts ++ rest)) (ap goes_on_values e)
-        ∙ ap (λ xs. c ∷ xs) (a.walks (ts ++ rest) ∙ ap (λ xs. spelled a.made ++ xs) (r.walks rest) ∙ sym (append_assoc (spelled a.made) (spelled r.made) (walk false rest)));
+          plain_step c false (t ∷ (ts ++ rest)) (ap goes_on_values e)
+          ∙ ap (λ xs. c ∷ xs) (a.walks (ts ++ rest) ∙ ap (λ xs. spelled a.made ++ xs) (r.walks rest) ∙ sym (append_assoc (spelled a.made) (spelled r.made) (walk false rest)));
     }
 
 pub make_arguments : (text : List ℕ) (tokens : List Token) (us args : List Terminal) → IsArguments us args → Made (rule 9) false false us (names_of text tokens) (words_of text tokens args)
@@ -153,10 +152,10 @@ make_list text tokens ts s (list name colon value values w c v vs) =
       shut = shut_pair (leaf (listed value)) r.made (no_leaf (listed value)) r.shut;
       means = ap (λ ns. statement.Attribute (attr_with text tokens name.place (word_at text tokens value.place ∷ ns))) r.means;
       walks = λ rest.
-        plain_step name false (colon ∷ value ∷ (values ++ rest)) (quiet name (inl w))
-        ∙ ap (λ xs. name ∷ xs) (plain_step colon true (value ∷ (values ++ rest)) (ap goes_on_values c))
-        ∙ ap (λ xs. name ∷ colon ∷ xs) (listed_step value (values ++ rest) v)
-        ∙ ap (λ xs. name ∷ colon ∷ listed value ∷ xs) (r.walks rest);
+          plain_step name false (colon ∷ value ∷ (values ++ rest)) (quiet name (inl w))
+          ∙ ap (λ xs. name ∷ xs) (plain_step colon true (value ∷ (values ++ rest)) (ap goes_on_values c))
+          ∙ ap (λ xs. name ∷ colon ∷ xs) (listed_step value (values ++ rest) v)
+          ∙ ap (λ xs. name ∷ colon ∷ listed value ∷ xs) (r.walks rest);
     }
 
 -- a statement of the grammar, spelled so
@@ -237,8 +236,8 @@ head_statement text tokens ts s name opening close a z w o c is_a shut_a is_z sh
       shut = shut_pair n.made (right all) n.shut shut_all;
       means = ap (λ m. body_of text tokens m (names_of text tokens a) z) n.means ∙ means;
       walks = λ rest.
-        walks rest
-        ∙ sym (
+          walks rest
+          ∙ sym (
           ap (λ xs. (xs ++ (opening ∷ (spelled a ++ (close ∷ spelled z)))) ++ walk false rest) (name_spelled name w)
           ∙ ap (λ xs. name ∷ opening ∷ xs) (append_assoc (spelled a) (close ∷ spelled z) (walk false rest)));
     }
@@ -284,11 +283,11 @@ make_braced text tokens begin inner ss end ending b e h c =
       shut = shut_pair (leaf begin) rear (no_leaf begin) shut_rear;
       means = c.means;
       walks = λ rest.
-        ap (λ xs. walk false (begin ∷ xs)) (append_assoc inner (end ∷ ending) rest)
-        ∙ plain_step begin false (inner ++ (end ∷ (ending ++ rest))) (ap goes_on_values b)
-        ∙ ap (λ xs. begin ∷ xs) (c.walks end (ending ++ rest) e)
-        ∙ ap (λ xs. begin ∷ (spelled c.made ++ (end ∷ xs))) (z.walks rest)
-        ∙ sym (ap (λ xs. begin ∷ xs) (append_assoc (spelled c.made) (end ∷ spelled z.made) (walk false rest)));
+          ap (λ xs. walk false (begin ∷ xs)) (append_assoc inner (end ∷ ending) rest)
+          ∙ plain_step begin false (inner ++ (end ∷ (ending ++ rest))) (ap goes_on_values b)
+          ∙ ap (λ xs. begin ∷ xs) (c.walks end (ending ++ rest) e)
+          ∙ ap (λ xs. begin ∷ (spelled c.made ++ (end ∷ xs))) (z.walks rest)
+          ∙ sym (ap (λ xs. begin ∷ xs) (append_assoc (spelled c.made) (end ∷ spelled z.made) (walk false rest)));
     }
 
 group_made : (text : List ℕ) (tokens : List Token) (name opening : Terminal) (between args : List Terminal) (close begin : Terminal) (inner : List Terminal) (ss : List Statement) (end : Terminal) (ending : List Terminal) →
@@ -327,8 +326,8 @@ complex_statement text tokens name opening between args close ending w o a c h =
     let x = make_arguments text tokens between args a in
     let z = make_ending ending h in
     head_statement text tokens (name ∷ opening ∷ (between ++ (close ∷ ending))) (statement.Attribute (attr_with text tokens name.place (words_of text tokens args))) name opening close x.made (right z.made) w o c x.is x.shut (rule 1, rule 8, refl, z.is) z.shut
-      (λ rest. head_walks name opening between close ending rest x.made z.made w o c x.walks (z.walks rest))
-      (ap (λ ns. statement.Attribute (attr_with text tokens name.place ns)) x.means)
+    (λ rest. head_walks name opening between close ending rest x.made z.made w o c x.walks (z.walks rest))
+    (ap (λ ns. statement.Attribute (attr_with text tokens name.place ns)) x.means)
 
 ended : (text : List ℕ) (tokens : List Token) (ts : List Terminal) (s : Statement) (t : Terminal) (m : ℕ) (stop : Derivation) → MadeList text tokens ts s → t.kind ≡ m → walked true m ≡ m → goes_on_values m ≡ false →
     IsOf liberty_grammar (rule 6) stop → Shut stop → spelled stop ≡ t ∷ [] → Made (rule 3) false false (ts ++ (t ∷ [])) (statement_of text tokens) s
@@ -340,10 +339,10 @@ ended text tokens ts s t m stop l k w g is_stop shut_stop spells =
       shut = d.shut;
       means = d.means;
       walks = λ rest.
-        ap (walk false) (append_assoc ts (t ∷ []) rest)
-        ∙ l.walks (t ∷ rest)
-        ∙ ap (λ xs. l.name ∷ l.colon ∷ (spelled l.values ++ xs)) (mark_step t m rest k w g)
-        ∙ sym (
+          ap (walk false) (append_assoc ts (t ∷ []) rest)
+          ∙ l.walks (t ∷ rest)
+          ∙ ap (λ xs. l.name ∷ l.colon ∷ (spelled l.values ++ xs)) (mark_step t m rest k w g)
+          ∙ sym (
           ap (λ xs. xs ++ walk false rest) d.spells
           ∙ ap (λ xs. l.name ∷ l.colon ∷ xs) (append_assoc (spelled l.values) (spelled stop) (walk false rest))
           ∙ ap (λ xs. l.name ∷ l.colon ∷ (spelled l.values ++ (xs ++ walk false rest))) spells);
@@ -364,9 +363,9 @@ unended_contents text tokens ts s l =
       shut = shut_more d.made done d.shut (λ k o. o);
       means = ap (λ x. x ∷ []) d.means;
       walks = λ e rest k.
-        l.walks (e ∷ rest)
-        ∙ ap (λ xs. l.name ∷ l.colon ∷ (spelled l.values ++ xs)) (mark_step e 7 rest k refl refl)
-        ∙ sym (
+          l.walks (e ∷ rest)
+          ∙ ap (λ xs. l.name ∷ l.colon ∷ (spelled l.values ++ xs)) (mark_step e 7 rest k refl refl)
+          ∙ sym (
           ap (λ xs. (xs ++ []) ++ (e ∷ walk false rest)) d.spells
           ∙ ap (λ xs. xs ++ (e ∷ walk false rest)) (append-nil (l.name ∷ l.colon ∷ (spelled l.values ++ [])))
           ∙ ap (λ xs. l.name ∷ l.colon ∷ (xs ++ (e ∷ walk false rest))) (append-nil (spelled l.values)));
@@ -379,10 +378,10 @@ more_contents text tokens ts us s ss m c = record {
   shut = shut_more m.made c.made m.shut c.shut;
   means = ap (λ x. x ∷ statements_of text tokens c.made) m.means ∙ ap (λ xs. s ∷ xs) c.means;
   walks = λ e rest k.
-    ap (walk false) (append_assoc ts us (e ∷ rest))
-    ∙ m.walks (us ++ (e ∷ rest))
-    ∙ ap (λ xs. spelled m.made ++ xs) (c.walks e rest k)
-    ∙ sym (append_assoc (spelled m.made) (spelled c.made) (e ∷ walk false rest));
+      ap (walk false) (append_assoc ts us (e ∷ rest))
+      ∙ m.walks (us ++ (e ∷ rest))
+      ∙ ap (λ xs. spelled m.made ++ xs) (c.walks e rest k)
+      ∙ sym (append_assoc (spelled m.made) (spelled c.made) (e ∷ walk false rest));
 }
 
 mutual

@@ -1,14 +1,14 @@
 -- The terminals of the grammar from tokens that know of no list of values.
-use Rattle.std.proofs.Common.{◌≡◌, ◌≢◌, ℕ, zero, suc, ◌<◌, Bool, true, false, List, [], ◌∷◌, ◌++◌, refl, ap, sym, ◌∙◌, subst, arith, inl, inr}
+use Rattle.std.proofs.Common.{◌≡◌, ◌≢◌, ℕ, zero, suc, Bool, true, false, List, [], ◌∷◌, refl, ap, sym, ◌∙◌, arith, inl, inr}
 use Rattle.std.specs.Prelude.{◌⊎◌, ◌==◌, if◌then◌else◌, codes, slice_index}
 use Rattle.std.specs.Str.{bytes_eq}
 use Rattle.pe_grammar.specs.declared.terminal.Token.{Token as Terminal}
 use Rattle.pe_text.specs.declared.token.Kind.{Kind}
 use Rattle.pe_text.specs.declared.token.Kind.TheVariants.{Text, Mark, End}
 use Rattle.pe_text.specs.declared.token.Token.{Token}
-use Rattle.pe_liberty_read.specs.Format.{plain_from, plain_of, IsValue}
-use Rattle.pe_liberty_read.specs.Terminals.{mark_of, word_of, text_of, terminal_of, goes_on_values, bytes_of, terminals_from, terminals_of}
-use Rattle.pe_liberty_read.specs.declared.liberty_table.TheConstants.{LIBRARY, WORD, TEXT, VALUE, OPEN, CLOSE, BEGIN, END, COLON, SEMI, COMMA, LINE}
+use Rattle.pe_liberty_read.specs.Format.{plain_from, plain_of}
+use Rattle.pe_liberty_read.specs.Terminals.{terminal_of, goes_on_values, bytes_of, terminals_from, terminals_of}
+use Rattle.pe_liberty_read.specs.declared.liberty_table.TheConstants.{LIBRARY, WORD, VALUE, OPEN, CLOSE, BEGIN, END, COLON, SEMI, COMMA}
 
 -- the terminal in a list of values or elsewhere; 12 is none, for VALUE is none of a token by itself
 abbrev pub walked : Bool → ℕ → ℕ

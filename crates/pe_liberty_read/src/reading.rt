@@ -59,8 +59,9 @@ pub fn one_liberty()
     one_reading();
 }
 
-/// The grammar, which tells statements apart by one token, has the texts of the rules that the format states, and their groups.
+/// A text spells a group by the grammar, which tells statements apart by their next token, exactly where it does by the rules
+/// as the format states them: groups, lists of values and arguments each spelled out, and values words like others.
 pub fn format_law()
+    // The grammar adds no text, loses none and gives each the same group.
     ensures by_rules { (text : List ℕ) (g : Group) → IsLiberty text g ↔ IsByFormat text g }
-{
-}
+{}

@@ -1,4 +1,4 @@
-use Rattle.std.proofs.Common.{◌≡◌, ℕ, List, refl, ap, sym, ◌∙◌, subst}
+use Rattle.std.proofs.Common.{ℕ, List, refl, sym, ◌∙◌, subst}
 use Rattle.pe_grammar.proofs.Same.{from_table, to_table}
 use Rattle.pe_grammar.specs.Written.{rule}
 use Rattle.pe_liberty_read.specs.Format.{plain_of, IsGroup, IsByFormat, BeginsWithLibrary}
@@ -19,8 +19,7 @@ by_format text g p =
 
 by_grammar : (text : List ℕ) (g : Group) → IsByFormat text g → IsLiberty text g
 by_grammar text g q =
-    let m = make_library text q.0 (plain_of text q.0) g q.2 q.3 in
-    (
+    let m = make_library text q.0 (plain_of text q.0) g q.2 q.3 in (
       q.0,
       m.made,
       record {
