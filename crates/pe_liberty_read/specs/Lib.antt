@@ -3,3 +3,4 @@ pub mod Terminals
 pub mod Contents
 pub mod Meaning
 pub mod Reading
+pub mod Format

@@ -8,7 +8,7 @@ mod statement;
 mod terminal;
 mod tree;
 
-pub use reading::{one_liberty, read_liberty};
+pub use reading::{format_law, one_liberty, read_liberty};
 pub use tree::{Attr, Group};
 
 #[cfg(test)]

@@ -6,6 +6,7 @@ ghost use Rattle.pe_grammar.specs.Grammar.{Derives};
 ghost use Rattle.pe_grammar.specs.Written.{IsOf, rule};
 ghost use Rattle.pe_text.specs.declared.fault.ReadFault.{ReadFault};
 ghost use Rattle.pe_text.specs.declared.fault.ReadFault.TheVariants.{Memory};
+ghost use Rattle.pe_liberty_read.specs.Format.{IsByFormat};
 ghost use Rattle.pe_liberty_read.specs.LibertyGrammar.{liberty_grammar};
 ghost use Rattle.pe_liberty_read.specs.Reading.{IsAnswer, IsLiberty, IsReadFault};
 ghost use Rattle.pe_liberty_read.specs.declared.tree.Group.{Group};
@@ -57,3 +58,10 @@ pub fn one_liberty()
 {
     one_reading();
 }
+
+/// A text spells a group by the grammar, which tells statements apart by their next token, exactly where it does by the rules
+/// as the format states them: groups, lists of values and arguments each spelled out, and values words like others.
+pub fn format_law()
+    // The grammar adds no text, loses none and gives each the same group.
+    ensures by_rules { (text : List ℕ) (g : Group) → IsLiberty text g ↔ IsByFormat text g }
+{}
