@@ -13,3 +13,6 @@ pub use job::{Goal, Job, Leaf};
 pub use literal::Lit;
 pub use marks::Marks;
 pub use named::{Named, Names, Point, Shown};
+
+#[cfg(test)]
+mod tests;
