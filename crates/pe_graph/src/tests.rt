@@ -131,9 +131,15 @@ fn one_name(alloc: Global, name: &[u8]) -> Result<Items<Name>, Want>
 #[test]
 fn names_of_a_small_job(rt: HostRuntime) -> Result<(), Fail> {
     let named = one_goal(rt.alloc())?;
-    assert_eq!(rt; named.names.as_slice(), [(Step::Start(0), Point::Output(0))].as_slice());
+    assert_eq!(rt;
+        named.names.as_slice(),
+        [(Step::Start(0), Point::Output(0))].as_slice()
+    );
     assert_eq!(rt; named.job.goals.len(), 1);
-    assert_eq!(rt; named.job.leaves.as_slice(), [Leaf::Input { cycle: 1, input: 0 }].as_slice());
+    assert_eq!(rt;
+        named.job.leaves.as_slice(),
+        [Leaf::Input { cycle: 1, input: 0 }].as_slice()
+    );
     assert_eq!(rt; Job::new(rt.alloc())?.goals.len(), 0);
     Ok(())
 }
