@@ -44,7 +44,6 @@ fn values_of_a_small_graph(rt: HostRuntime) -> Result<(), Fail> {
     let b = graph.leaf(1)?;
     let both = graph.and(a, b.complement())?;
     let either = graph.or(a, b)?;
-    let mut marks = Marks::new(rt.alloc(), &graph)?;
     let cases = [
         ([false, false], (false, false)),
         ([false, true], (false, true)),
@@ -52,11 +51,13 @@ fn values_of_a_small_graph(rt: HostRuntime) -> Result<(), Fail> {
         ([true, true], (false, true)),
     ];
     for (leaves, expected) in cases {
+        let mut marks = Marks::new(rt.alloc(), &graph)?;
         let first = graph.value(both, &leaves, &mut marks);
         let second = graph.value(either, &leaves, &mut marks);
         assert_eq!(rt; (first, second), expected);
     }
     // A leaf beyond the values is 0.
+    let mut marks = Marks::new(rt.alloc(), &graph)?;
     assert_eq!(rt; graph.value(either, &[false], &mut marks), false);
     Ok(())
 }
