@@ -2,3 +2,4 @@ pub mod TableLemmas
 pub mod Growth
 pub mod Gates
 pub mod Evaluation
+pub mod SmallJob
