@@ -1,0 +1,3 @@
+pub mod MapLines
+pub mod Pieces
+pub mod MapOnce

@@ -1,0 +1,5 @@
+pub mod MapGrammar
+pub mod MapFile
+pub mod MapTerminals
+pub mod MapMeaning
+pub mod MapReading

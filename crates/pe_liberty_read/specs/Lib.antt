@@ -1,0 +1,5 @@
+pub mod LibertyGrammar
+pub mod Terminals
+pub mod Contents
+pub mod Meaning
+pub mod Reading

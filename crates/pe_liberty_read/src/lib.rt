@@ -1,0 +1,15 @@
+//! Reads the text of a cell library (Liberty).
+#![tactic(auto)]
+
+mod build;
+mod liberty_table;
+mod reading;
+mod statement;
+mod terminal;
+mod tree;
+
+pub use reading::{one_liberty, read_liberty};
+pub use tree::{Attr, Group};
+
+#[cfg(test)]
+mod tests;
