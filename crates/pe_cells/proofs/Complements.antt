@@ -1,7 +1,7 @@
 -- The complement of a register, by its controls.
 use Rattle.std.proofs.Common.{◌≡◌, refl}
 use Rattle.pe_base.specs.declared.value.Val.{Val}
-use Rattle.pe_base.specs.declared.value.Val.TheVariants.{Zero, One, Corrupt}
+use Rattle.pe_base.specs.declared.value.Val.TheVariants.{Zero, One}
 use Rattle.pe_base.specs.Operators.{not_of}
 use Rattle.pe_base.specs.Registers.{shadow_of, main_of}
 use Rattle.pe_base.specs.Values.{pick_of, merge_over}

@@ -1,6 +1,6 @@
 -- The power of a cell (Liberty: pg_pin): which of its power and ground pins have to be on, and what such a pin reads as in a
 -- function. Each pin is on or off.
-use Rattle.std.specs.Prelude.{ℕ, Bool, true, false, not, ◌&&◌, ◌||◌, List, slice_index_or}
+use Rattle.std.specs.Prelude.{Bool, true, false, not, ◌&&◌, ◌||◌, List, slice_index_or}
 use Rattle.std.specs.List.{list_all, list_any, zip}
 use Rattle.pe_base.specs.declared.value.Val.{Val}
 use Rattle.pe_base.specs.declared.value.Val.TheVariants.{Zero, One, Corrupt}

@@ -1,8 +1,8 @@
 -- The register of a cell (Liberty: ff, retention_pin). IQ is the visible value of the law of registers; IQN is here.
-use Rattle.std.specs.Prelude.{Bool, true, false, cond, List, [], ◌∷◌, Option, Some, None, slice_index_or}
+use Rattle.std.specs.Prelude.{Bool, true, cond, List, [], ◌∷◌, Option, Some, None, slice_index_or}
 use Rattle.pe_base.specs.declared.register.RegisterInputs.{RegisterInputs}
 use Rattle.pe_base.specs.declared.value.Val.{Val}
-use Rattle.pe_base.specs.declared.value.Val.TheVariants.{Zero, One, Corrupt}
+use Rattle.pe_base.specs.declared.value.Val.TheVariants.{Zero, Corrupt}
 use Rattle.pe_base.specs.Operators.{not_of}
 use Rattle.pe_base.specs.Registers.{kept_of, main_of, shadow_of, choice}
 use Rattle.pe_base.specs.Values.{merge_over}

@@ -2,9 +2,13 @@
 #![tactic(auto)]
 
 mod cell;
+mod form;
+mod kinds;
+mod looking;
 mod outputs;
 mod power;
 mod register;
+mod repeats;
 
 pub use cell::{
     CellRegister, CellRetention, CellSwitch, CellView, Pg, PgKind, RetentionPin, Signal,
@@ -12,3 +16,4 @@ pub use cell::{
 pub use outputs::{output, pin_values, value};
 pub use power::{has_switch_on, is_powered, is_retained, pg_value};
 pub use register::{complement, control};
+

@@ -6,8 +6,8 @@ ghost use Rattle.pe_bool_expr.specs.Functions.{pins_of, different, holds};
 ghost use Rattle.pe_cells.specs.Power.{is_zero};
 ghost use Rattle.pe_cells.specs.Output.{pg_values_of, pin_values_of, value_of, is_on_of, are_related_on, is_up_of, output_of};
 
-use crate::power::{is_powered, pg_value};
 use crate::cell::{Pg, Signal};
+use crate::power::{is_powered, pg_value};
 use pe_base::{Val, Want, kept};
 use pe_bool_expr::{Expr, eval3};
 use std::alloc::{AllocError, Global};
@@ -36,7 +36,10 @@ pub fn pin_values(
 fn pg_values(alloc: Global, pgs: &[Pg], ons: &[bool]) -> Result<Vec<Val>, AllocError>
     ensures { IfOk result (λ v. v.items ≡ pg_values_of pgs.now ons.now) }
 {
-    pgs.iter().zip(ons).map(|(pg, on)| pg_value(pg.kind, *on)).collect(alloc)
+    pgs.iter()
+        .zip(ons)
+        .map(|(pg, on)| pg_value(pg.kind, *on))
+        .collect(alloc)
 }
 
 /// The value of a function over the values of the pins, and corrupt without one.

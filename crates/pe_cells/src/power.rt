@@ -37,7 +37,9 @@ fn is_backup(kind: PgKind) -> bool
 pub fn is_powered(pgs: &[Pg], ons: &[bool]) -> bool
     ensures { result ≡ is_powered_of pgs.now ons.now }
 {
-    pgs.iter().zip(ons).all(|(pg, on)| !is_primary(pg.kind) || *on)
+    pgs.iter()
+        .zip(ons)
+        .all(|(pg, on)| !is_primary(pg.kind) || *on)
 }
 
 /// Whether what a retention cell keeps has power: all backup pins are on, and where it has no backup ground, all primary
@@ -51,7 +53,9 @@ pub fn is_retained(pgs: &[Pg], ons: &[bool]) -> bool
 fn has_backup(pgs: &[Pg], ons: &[bool]) -> bool
     ensures { result ≡ are_on is_backup_kind pgs.now ons.now }
 {
-    pgs.iter().zip(ons).all(|(pg, on)| !is_backup(pg.kind) || *on)
+    pgs.iter()
+        .zip(ons)
+        .all(|(pg, on)| !is_backup(pg.kind) || *on)
 }
 
 fn has_ground(pgs: &[Pg], ons: &[bool]) -> bool

@@ -1,4 +1,3 @@
-use Rattle.std.proofs.Common.{◌∙◌}
 use Rattle.pe_cells.proofs.Complements.{complement_is}
 use Rattle.pe_cells.proofs.register.complement.Goals as goal
 
