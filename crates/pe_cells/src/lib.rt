@@ -17,3 +17,5 @@ pub use outputs::{output, pin_values, value};
 pub use power::{has_switch_on, is_powered, is_retained, pg_value};
 pub use register::{complement, control};
 
+#[cfg(test)]
+mod tests;
