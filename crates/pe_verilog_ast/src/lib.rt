@@ -4,11 +4,14 @@
 //! lists, so that a tree equals the tree of a definition.
 #![tactic(auto)]
 
+mod cost;
 mod expression;
+mod family;
 mod item;
 mod module;
 mod number;
 mod operator;
+mod size;
 mod statement;
 mod target;
 
@@ -17,5 +20,6 @@ pub use item::{Item, Pins};
 pub use module::{Dir, HeadPort, Module, NetKind, Param, Port, Range, Source};
 pub use number::Digit;
 pub use operator::{BinOp, UnOp};
+pub use size::{weight, width};
 pub use statement::{Arm, Edge, Event, Stmt};
 pub use target::Target;
