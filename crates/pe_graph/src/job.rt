@@ -26,7 +26,8 @@ pub enum Leaf {
     NetShadowOne(u32),
 }
 
-/// What is to hold: under no assignment where `ctx` is 1 is `a` 1 and `b` 0.
+/// What is to hold: under each assignment where `ctx` is 1, `a` and `b` are equal. A live goal has the constant false as
+/// `b`, and the others have the constant true.
 #[derive(Clone, Copy, Debug, PartialEq, Eq)]
 pub struct Goal {
     pub ctx: Lit,
@@ -51,6 +52,25 @@ pub struct Job {
 }
 
 impl Job {
+    /// The job of these goals. Each fact is one of those that every job has.
+    pub fn with(graph: Graph, leaves: Items<Leaf>, goals: Items<Goal>) -> Job
+        requires few_goals { length goals ≤ 1048576 }
+        requires few_leaves { length leaves < 2 ^ 32 }
+        requires leaf_each { (k : ℕ) → IsTrue (has_leaf graph k) ↔ (k < length leaves) }
+        requires goals_in { All (IsGoalIn graph) goals }
+        requires formed { All (λ g. IsTrue (has_form g)) goals }
+        requires small_cones { All (HasSmallCone graph) goals }
+        ensures graph { result.graph ≡ graph }
+        ensures leaves { result.leaves ≡ leaves }
+        ensures goals { result.goals ≡ goals }
+    {
+        Job {
+            graph,
+            leaves,
+            goals,
+        }
+    }
+
     /// The job of the constants, with no goal.
     pub fn new(alloc: Global) -> Result<Job, Want>
         ensures { IfOk result (λ job. (job.leaves ≡ []) × (job.goals ≡ [])) }
@@ -62,23 +82,4 @@ impl Job {
             goals: Items::new(alloc),
         })
     }
-}
-
-/// Where an obligation compares: an output, a register, the shadow of a register, each by its number, or nowhere, since
-/// it says that a step can be taken.
-#[derive(Clone, Copy, Debug, PartialEq, Eq)]
-pub enum Point {
-    Output(u32),
-    Register(u32),
-    Shadow(u32),
-    Live,
-}
-
-/// The two values of a point in the last cycle, as literals that say that a value is 1 and that it is 0.
-#[derive(Clone, Copy, Debug, PartialEq, Eq)]
-pub struct Shown {
-    pub rtl_one: Lit,
-    pub rtl_zero: Lit,
-    pub net_one: Lit,
-    pub net_zero: Lit,
 }

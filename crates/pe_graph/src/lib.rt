@@ -5,9 +5,11 @@ mod graph;
 mod job;
 mod literal;
 mod marks;
+mod named;
 mod table;
 
 pub use graph::{Graph, Node};
-pub use job::{Goal, Job, Leaf, Point, Shown};
+pub use job::{Goal, Job, Leaf};
 pub use literal::Lit;
 pub use marks::Marks;
+pub use named::{Named, Names, Point, Shown};

@@ -6,3 +6,4 @@ pub mod Arithmetic
 pub mod Comparison
 pub mod RegisterGives
 pub mod Shifting
+pub mod ExtensionLemmas

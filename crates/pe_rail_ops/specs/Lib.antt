@@ -3,3 +3,4 @@ pub mod Gates
 pub mod Adders
 pub mod Registers
 pub mod Stages
+pub mod Extension

@@ -7,6 +7,7 @@
 mod adder;
 pub mod bit;
 mod bits;
+mod extension;
 mod gate;
 mod numbers;
 mod register;
@@ -17,6 +18,7 @@ pub use bits::{
     and, choose, equal, logic_and, logic_not, logic_or, not, not_equal, or, reduce_and,
     reduce_nand, reduce_nor, reduce_or, reduce_xnor, reduce_xor, xnor, xor,
 };
+pub use extension::exact;
 pub use numbers::{add, greater, greater_equal, less, less_equal, subtract};
 pub use register::{RegisterRails, isolated, next_main, next_shadow, visible};
 pub use shifts::{pick, shift_left, shift_right};
