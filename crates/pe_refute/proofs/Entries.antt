@@ -1,9 +1,9 @@
 -- The equalities that an entry cites.
-use Rattle.std.proofs.Common.{◌≡◌, ℕ, zero, suc, ◌+◌, ◌<◌, ◌||◌, ◌⊎◌, ◌↔◌, ◌++◌, Bool, true, false, Option, None, Some, List, [], ◌∷◌, length, get_or, take, refl, sym, ap, ◌∙◌, subst, arith, add-one, inl, inr, eq-eqb}
-use Rattle.std.specs.List.{All, list_any}
+use Rattle.std.proofs.Common.{◌≡◌, ℕ, zero, suc, ◌+◌, ◌<◌, ◌↔◌, ◌++◌, Bool, true, false, Option, None, Some, List, [], ◌∷◌, length, get_or, take, refl, sym, ap, ◌∙◌, subst, arith, inl, inr, eq-eqb}
+use Rattle.std.specs.List.{All}
 use Rattle.std.specs.Bool.{IsTrue}
 use Rattle.std.proofs.lemmas.Bool.{eqb-true}
-use Rattle.pe_graph.specs.Literals.{var_of, truth_of}
+use Rattle.pe_graph.specs.Literals.{var_of}
 use Rattle.pe_graph.specs.declared.graph.Node.{Node}
 use Rattle.pe_graph.specs.declared.graph.Node.TheVariants.{Leaf}
 use Rattle.pe_graph.specs.Nodes.{node_at, IsIn}
@@ -11,7 +11,7 @@ use Rattle.pe_graph.specs.Cone.{is_leaf, has_leaf}
 use Rattle.pe_cnf.specs.declared.equality.Equality.{Equality}
 use Rattle.pe_cnf.specs.Cone.{cites, HasCited, HasLeaves}
 use Rattle.pe_cnf.specs.Meaning.{AreTrue, Holds}
-use Rattle.pe_refute.specs.Entries.{seen_at, fits, is_lawful, AreLawful, with_seen, cited_of, AreSeenIn}
+use Rattle.pe_refute.specs.Entries.{seen_at, fits, AreLawful, with_seen, cited_of, AreSeenIn}
 use Rattle.pe_refute.proofs.Sight.{or_cases, or_left, or_right}
 use Rattle.pe_refute.proofs.Walk.{false_is_true}
 use Rattle.std.proofs.lemmas.List.{append-nil}

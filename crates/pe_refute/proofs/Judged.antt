@@ -1,16 +1,15 @@
 -- Evidence that is judged: good, or wrong at a step.
-use Rattle.std.proofs.Common.{◌≡◌, ℕ, ◌≤◌, ◌<◌, ◌↔◌, ◌⊎◌, Bool, true, false, not, IsTrue, Option, None, Some, is_none, List, [], ◌∷◌, map, length, get_or, refl, sym, ap, ◌∙◌, arith, inl, inr, zero, suc}
-use Rattle.std.specs.Prelude.{MatchOption, is_some, ⊤}
+use Rattle.std.proofs.Common.{◌≡◌, ℕ, ◌≤◌, ◌<◌, ◌↔◌, Bool, true, false, not, IsTrue, Option, None, Some, is_none, List, [], ◌∷◌, map, length, get_or, refl, sym, arith, inl, inr, zero, suc}
+use Rattle.std.specs.Prelude.{MatchOption, is_some}
 use Rattle.pe_graph.specs.declared.graph.Node.{Node}
 use Rattle.pe_graph.specs.Nodes.{IsGraph}
-use Rattle.pe_cnf.specs.Clause.{has, IsBelow, AllBelow}
+use Rattle.pe_cnf.specs.Clause.{IsBelow, AllBelow}
 use Rattle.pe_cnf.specs.ClauseSet.{ClauseSet}
 use Rattle.pe_cnf.specs.Cone.{HasGoal, HasCited}
 use Rattle.pe_cnf.specs.Meaning.{AreTrue, Holds}
 use Rattle.pe_cnf.specs.declared.equality.Equality.{Equality}
 use Rattle.pe_refute.specs.Chain.{clause_of, IsGoodChain}
-use Rattle.pe_refute.specs.Table.{IsTable}
-use Rattle.pe_refute.specs.Faults.{IsChainFault, IsTableFault, IsWrongAt}
+use Rattle.pe_refute.specs.Faults.{IsChainFault, IsWrongAt}
 use Rattle.pe_refute.specs.Evidence.{IsGood, IsWithin, ProvesGoal}
 use Rattle.pe_refute.specs.Entries.{goal_of, IsJudged}
 use Rattle.pe_refute.specs.declared.evidence.Derived.{Derived}

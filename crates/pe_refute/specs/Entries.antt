@@ -1,5 +1,5 @@
 -- Entries, the equalities that they cite, and what is wrong with them.
-use Rattle.std.specs.Prelude.{◌≡◌, ℕ, ◌<◌, ◌==◌, ◌||◌, Bool, true, false, Option, None, Some, List, [], ◌∷◌, length, slice_index, slice_index_or, MatchOption, All}
+use Rattle.std.specs.Prelude.{◌≡◌, ℕ, ◌<◌, ◌==◌, ◌||◌, Bool, true, false, Option, None, Some, List, [], ◌∷◌, length, slice_index, slice_index_or, MatchOption}
 use Rattle.pe_graph.specs.Literals.{truth_of}
 use Rattle.pe_graph.specs.declared.graph.Node.{Node}
 use Rattle.pe_graph.specs.Nodes.{IsIn}
@@ -7,7 +7,7 @@ use Rattle.pe_graph.specs.declared.job.Job.{Job}
 use Rattle.pe_cnf.specs.declared.equality.Goal.{Goal}
 use Rattle.pe_cnf.specs.declared.equality.Equality.{Equality}
 use Rattle.pe_cnf.specs.ClauseSet.{ClauseSet}
-use Rattle.pe_cnf.specs.Cone.{IsConeOf, HasGoal}
+use Rattle.pe_cnf.specs.Cone.{IsConeOf}
 use Rattle.pe_refute.specs.Evidence.{IsGood}
 use Rattle.pe_refute.specs.Faults.{IsWrongAt}
 use Rattle.pe_refute.specs.declared.evidence.Evidence.{Evidence}

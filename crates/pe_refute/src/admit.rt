@@ -146,8 +146,8 @@ fn gather(alloc: Global, seen: &[Option<Equality>], cites: &[u32]) -> Result<Ite
     Ok(cited)
 }
 
-// A number above each variable of the evidence.
-fn vars_of(evidence: &Evidence) -> u64
+/// A number above each variable of the evidence: room for a scratch that checks it.
+pub fn vars_of(evidence: &Evidence) -> u64
     ensures { IsWithin result evidence.now }
 {
     match evidence {

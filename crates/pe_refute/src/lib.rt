@@ -10,7 +10,7 @@ mod follow;
 mod scratch;
 mod table;
 
-pub use admit::checked;
+pub use admit::{checked, vars_of};
 pub use chain::{chain_fault, chain_law};
 pub use checker::{check, first_fault};
 pub use entry::{CheckedEntry, Entry, EntryFault};
