@@ -6,3 +6,5 @@ pub mod Sound
 pub mod Halves
 pub mod Evaluated
 pub mod Breaks
+pub mod Entries
+pub mod Judged

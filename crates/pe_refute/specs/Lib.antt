@@ -4,3 +4,5 @@ pub mod Known
 pub mod Evidence
 pub mod Table
 pub mod Evaluation
+pub mod Faults
+pub mod Entries

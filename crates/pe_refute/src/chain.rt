@@ -1,8 +1,9 @@
 //! Chains of derived clauses.
 
-ghost use Rattle.std.specs.Prelude.{◌≡◌, ℕ, ◌↔◌, Bool, List, IsTrue};
+ghost use Rattle.std.specs.Prelude.{◌≡◌, ℕ, ◌↔◌, Bool, List, IsTrue, MatchOption};
 ghost use Rattle.pe_cnf.specs.Clause.{AllBelow, Satisfies};
 ghost use Rattle.pe_refute.specs.Chain.{all_clauses, EndsEmpty, IsGoodChain};
+ghost use Rattle.pe_refute.specs.Faults.{IsChainFault};
 ghost use Rattle.pe_refute.specs.declared.evidence.Derived.{Derived as Item};
 
 use crate::evidence::Derived;
@@ -10,10 +11,11 @@ use crate::follow::follows;
 use crate::scratch::Scratch;
 use pe_cnf::Clauses;
 
-/// Whether each clause of the chain follows from those before it, and the last is empty.
-pub fn check_chain(given: &Clauses, chain: &[Derived], scratch: &mut Scratch) -> bool
+/// The first clause of the chain that does not follow from those before it, or the chain's length where the last is not
+/// empty.
+pub fn chain_fault(given: &Clauses, chain: &[Derived], scratch: &mut Scratch) -> Option<u64>
     requires { AllBelow scratch.old.vars (all_clauses given.now.clauses chain.now) }
-    ensures good { IsTrue result ↔ IsGoodChain given.now.clauses chain.now }
+    ensures fault { MatchOption result (IsGoodChain given.now.clauses chain.now) (IsChainFault given.now.clauses chain.now) }
     ensures room { scratch.new.vars ≡ scratch.old.vars }
 {
     for (i, d) in chain.iter().enumerate() {
@@ -24,10 +26,13 @@ pub fn check_chain(given: &Clauses, chain: &[Derived], scratch: &mut Scratch) ->
             d.hints.as_slice(),
             scratch,
         ) {
-            return false;
+            return Some(i as u64);
         }
     }
-    ends_empty(chain)
+    if !ends_empty(chain) {
+        return Some(chain.len() as u64);
+    }
+    None
 }
 
 // Whether there is a last clause, and it is empty.

@@ -1,18 +1,22 @@
 //! The checker of evidence: that a goal's sides are equal wherever its context is 1.
 #![tactic(auto)]
 
+mod admit;
 mod chain;
 mod checker;
+mod entry;
 mod evidence;
 mod follow;
 mod scratch;
 mod table;
 
-pub use chain::{chain_law, check_chain};
-pub use checker::check;
+pub use admit::{checked, vars_of};
+pub use chain::{chain_fault, chain_law};
+pub use checker::{check, first_fault};
+pub use entry::{CheckedEntry, Entry, EntryFault};
 pub use evidence::{Derived, Evidence};
 pub use scratch::Scratch;
-pub use table::check_table;
+pub use table::table_fault;
 
 #[cfg(test)]
 mod tests;

@@ -1,11 +1,12 @@
 //! Tables over the leaves of a cone.
 
-ghost use Rattle.std.specs.Prelude.{◌≡◌, ℕ, ◌+◌, ◌*◌, ◌<◌, ◌≤◌, ◌^◌, ◌↔◌, ◌||◌, ◌==◌, ⊤, Bool, true, false, IsTrue, is_some, length, take, not};
+ghost use Rattle.std.specs.Prelude.{◌≡◌, ℕ, ◌+◌, ◌*◌, ◌<◌, ◌≤◌, ◌^◌, ◌↔◌, ◌||◌, ◌==◌, ⊤, Bool, true, false, IsTrue, is_some, length, take, not, MatchOption};
 ghost use Rattle.pe_graph.specs.Literals.{var_of};
 ghost use Rattle.pe_cnf.specs.Clause.{AllBelow, Satisfies, literal_value};
 ghost use Rattle.pe_cnf.specs.Gates.{IsGated, gate_count, gate_start, has_value, output_of, left_of, right_of};
 ghost use Rattle.pe_cnf.specs.Sound.{IsSound};
 ghost use Rattle.pe_refute.specs.Table.{IsTable, Assigns};
+ghost use Rattle.pe_refute.specs.Faults.{IsTableFault};
 ghost use Rattle.pe_refute.specs.Evaluation.{value_of, IsEvaluated};
 
 use crate::scratch::Scratch;
@@ -15,23 +16,30 @@ use pe_graph::Lit;
 // Over more leaves no table is taken.
 const MOST_LEAVES: usize = 12;
 
-/// Whether the sides of the goal are equal in each assignment of its leaves in which the context is 1.
-pub fn check_table(clauses: &Clauses, scratch: &mut Scratch) -> bool
+// What is wrong with a table of no goal, or of more leaves: more than the number of each assignment.
+const NO_TABLE: u64 = 4096;
+
+/// The first assignment of the leaves in which the context is 1 and the sides of the goal differ. It is 4,096 where there
+/// is no goal, or more than 12 leaves.
+pub fn table_fault(clauses: &Clauses, scratch: &mut Scratch) -> Option<u64>
     requires { clauses.now.vars ≤ scratch.old.vars }
-    ensures table { IsTrue result ↔ IsTable clauses.now }
+    ensures fault { MatchOption result (IsTable clauses.now) (IsTableFault clauses.now) }
     ensures room { scratch.new.vars ≡ scratch.old.vars }
 {
     clauses.clauses_law();
-    if clauses.goal().is_none() || clauses.leaves().len() > MOST_LEAVES {
-        return false;
+    if clauses.goal().is_none() {
+        return Some(NO_TABLE);
+    }
+    if clauses.leaves().len() > MOST_LEAVES {
+        return Some(NO_TABLE);
     }
     let count = 1u64 << clauses.leaves().len();
     for k in 0..count {
         if breaks(clauses, k, scratch) {
-            return false;
+            return Some(k);
         }
     }
-    true
+    None
 }
 
 // Whether the context is 1 and the sides differ in the assignment of this number.
@@ -39,7 +47,7 @@ fn breaks(clauses: &Clauses, k: u64, scratch: &mut Scratch) -> bool
     requires room { clauses.now.vars ≤ scratch.old.vars }
     requires sound { IsSound clauses.now }
     requires gated { IsGated clauses.now }
-    ensures found { IsTrue result → (w : ℕ → Bool) × Satisfies w (take (clauses.now.gates + 3) clauses.now.clauses) }
+    ensures found { IsTrue result → (w : ℕ → Bool) × Assigns clauses.now.leaves k w × Satisfies w (take (clauses.now.gates + 3) clauses.now.clauses) }
     ensures none { IsTrue (not result) → (w : ℕ → Bool) → Assigns clauses.now.leaves k w → Satisfies w (take (clauses.now.gates + 3) clauses.now.clauses) → ⊥ }
     ensures room { scratch.new.vars ≡ scratch.old.vars }
 {

@@ -52,7 +52,7 @@ returns-then-value-clause-found c = λ t.
     let vb = c.value-then-value-2.ensures ∙ ap (literal_value w) b in
     let differ : beq (literal_value w (a_of set)) (literal_value w (b_of set)) ≡ false = ap (λ y. beq y (literal_value w (b_of set))) (sym va) ∙ ap (beq c.value-then-value.result) (sym vb) ∙ false_from _ t in
     let full : c.loop-g.g ≡ gate_count set = omega (arith, c.gates-g-end.ensures) in
-    (w, broken set c.args.k c.loop-g.g w c.requires.gated full c.loop-g.invariant.evaluated ctx_on differ)
+    (w, c.loop-g.invariant.evaluated.leaves_are, broken set c.args.k c.loop-g.g w c.requires.gated full c.loop-g.invariant.evaluated ctx_on differ)
 
 pub returns-then-value-clause-none : goal.returns-then-value-clause-none
 returns-then-value-clause-none c = λ t z assigns holds.

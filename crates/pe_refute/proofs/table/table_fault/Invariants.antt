@@ -1,7 +1,7 @@
 use Rattle.std.proofs.Common.{◌≡◌, ◌<◌, ◌+◌, ℕ, Bool, take}
 use Rattle.pe_cnf.specs.Clause.{Satisfies}
 use Rattle.pe_refute.specs.Table.{Assigns}
-use Rattle.pe_refute.proofs.table.check_table.Given as goal
+use Rattle.pe_refute.proofs.table.table_fault.Given as goal
 
 abbrev pub invariant-loop-k : goal.invariant-loop-k
 invariant-loop-k l = record {

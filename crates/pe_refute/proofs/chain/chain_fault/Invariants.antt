@@ -1,6 +1,6 @@
 use Rattle.std.proofs.Common.{◌≡◌}
 use Rattle.pe_refute.specs.Chain.{DerivedUpTo}
-use Rattle.pe_refute.proofs.chain.check_chain.Given as goal
+use Rattle.pe_refute.proofs.chain.chain_fault.Given as goal
 
 abbrev pub invariant-loop-i : goal.invariant-loop-i
 invariant-loop-i l = record {

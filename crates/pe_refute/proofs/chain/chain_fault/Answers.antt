@@ -1,6 +1,6 @@
 use Rattle.std.proofs.Common.{arith}
 use Rattle.pe_refute.proofs.Numbers.{below_take, below_at}
-use Rattle.pe_refute.proofs.chain.check_chain.Goals as goal
+use Rattle.pe_refute.proofs.chain.chain_fault.Goals as goal
 
 pub follows-requires-clause-clauses : goal.follows-requires-clause-clauses
 follows-requires-clause-clauses c = rw c.loop-i.invariant.room (below_take _ c.args.given.now.clauses c.args.chain.now c.loop-i.i (omega arith) c.requires)
