@@ -14,6 +14,8 @@ mod operator;
 mod size;
 mod statement;
 mod target;
+#[cfg(test)]
+mod tests;
 
 pub use expression::{Ex, Operand, Select};
 pub use item::{Item, Pins};
