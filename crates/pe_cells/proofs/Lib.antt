@@ -1,3 +1,13 @@
 pub mod Complements
 pub mod Earliest
 pub mod Appends
+pub mod Additions
+pub mod Outcomes
+pub mod Shorts
+pub mod Reading
+pub mod Pins
+pub mod Words
+pub mod Formed
+pub mod Switching
+pub mod Making
+pub mod Whole

@@ -39,7 +39,7 @@ excluded_attrs attrs = flat_map (λ a. found_if (is_excluded a.name) a.place a.n
 abbrev pub excluded_groups : List Group → List Found
 excluded_groups groups = flat_map (λ h. found_if (is_excluded (out-Group h).kind) (out-Group h).place (out-Group h).kind) groups
 
--- those directly in a group
+-- those directly in a group; they are looked for in a cell's group and in the groups of its signal pins
 abbrev pub excluded_in : Group → List Found
 excluded_in g = excluded_attrs (out-Group g).attrs ++ excluded_groups (out-Group g).groups
 
@@ -120,9 +120,7 @@ first_ff groups = find is_ff groups
 -- of a group of a cell
 abbrev pub group_faults : List Pg → Group → List Found
 group_faults pgs g =
-    cond (is_pg_pin g) (excluded_in g ++ pg_faults pgs g)
-    (cond (is_pin g) (excluded_in g ++ pin_faults pgs g)
-    (cond (is_ff g) (excluded_in g) []))
+    cond (is_pg_pin g) (pg_faults pgs g) (cond (is_pin g) (excluded_in g ++ pin_faults pgs g) [])
 
 abbrev pub all_group_faults : List Pg → List Group → List Found
 all_group_faults pgs groups = flat_map (group_faults pgs) groups

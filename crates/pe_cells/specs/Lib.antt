@@ -1,6 +1,10 @@
 pub mod Looking
 pub mod Kinds
 pub mod Form
+pub mod Naming
+pub mod Functions
+pub mod Viewing
 pub mod Power
 pub mod Output
 pub mod Register
+pub mod WellFormed

@@ -147,7 +147,7 @@ fn has_type(group: &Group) -> bool
 }
 
 #[tactic(auto, unfolding(crate::specs::Form::has_internal))]
-fn has_internal(group: &Group) -> bool
+pub(crate) fn has_internal(group: &Group) -> bool
     ensures { result ≡ has_internal_group group.now }
 {
     is_internal(kind_in(group))
@@ -307,17 +307,12 @@ fn check_group(
     ensures { OnOk result (faults.new ≡ faults.old ++ group_faults pgs.now group.now) }
 {
     if is_pg_pin(group) {
-        add_excluded(alloc, faults, group)?;
         check_pg(alloc, faults, pgs, group)?;
         return Ok(());
     }
     if is_pin(group) {
         add_excluded(alloc, faults, group)?;
         check_pin(alloc, faults, pgs, group)?;
-        return Ok(());
-    }
-    if is_ff(group) {
-        add_excluded(alloc, faults, group)?;
     }
     Ok(())
 }

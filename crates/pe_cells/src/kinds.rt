@@ -66,7 +66,7 @@ pub(crate) fn is_internal(kind: PgKind) -> bool
     matches!(kind, PgKind::InternalPower | PgKind::InternalGround)
 }
 
-fn is_well(kind: PgKind) -> bool
+pub(crate) fn is_well(kind: PgKind) -> bool
     ensures { result ≡ is_well_kind kind }
 {
     matches!(kind, PgKind::Well)

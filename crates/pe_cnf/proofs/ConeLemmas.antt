@@ -8,7 +8,7 @@ use Rattle.pe_graph.specs.Literals.{var_of, is_negated, complement_of}
 use Rattle.pe_graph.specs.Nodes.{node_at, AreBelow as NamesBelow, IsGraph}
 use Rattle.pe_graph.proofs.Gates.{var_of-complement_of}
 use Rattle.pe_graph.proofs.Growth.{var_of-lit_of}
-use Rattle.pe_cnf.specs.declared.equality.Goal.{Goal}
+use Rattle.pe_graph.specs.declared.job.Goal.{Goal}
 use Rattle.pe_cnf.specs.declared.equality.Equality.{Equality}
 use Rattle.pe_cnf.specs.Clause.{has, IsBelow, AllBelow}
 use Rattle.pe_cnf.specs.ClauseSet.{and_clauses}

@@ -8,7 +8,7 @@ use Rattle.pe_graph.specs.declared.graph.Node.TheVariants.{True, Leaf, And}
 use Rattle.pe_graph.specs.Literals.{var_of, is_negated, lit_of, complement_of}
 use Rattle.pe_graph.specs.Nodes.{node_at, AreBelow as NamesBelow, IsGraph}
 use Rattle.pe_graph.proofs.Growth.{var_of-lit_of, is_negated-lit_of}
-use Rattle.pe_cnf.specs.declared.equality.Goal.{Goal}
+use Rattle.pe_graph.specs.declared.job.Goal.{Goal}
 use Rattle.pe_cnf.specs.declared.equality.Equality.{Equality}
 use Rattle.pe_cnf.specs.Clause.{clause_at}
 use Rattle.pe_cnf.specs.ClauseSet.{ClauseSet, and_clauses, leaf_var}
@@ -220,7 +220,7 @@ same_node cone variable x y rises cx cy e =
     ]
 
 -- two nodes with equal contents are one
-same_content : (nodes : List Node) (x y : ℕ) → IsGraph nodes → x < length nodes → y < length nodes → node_at nodes x ≡ node_at nodes y → x ≡ y
+pub same_content : (nodes : List Node) (x y : ℕ) → IsGraph nodes → x < length nodes → y < length nodes → node_at nodes x ≡ node_at nodes y → x ≡ y
 same_content nodes x y graph lx ly e =
     elim (order x y) [
       | inl lt ↦ absurd (graph.apart x y lt ly e)
@@ -252,7 +252,7 @@ true_no_leaf k node a b = let e : True ≡ Leaf k = sym a ∙ b in cc
 leaf_inside : (k j : ℕ) (node : Node) → node ≡ Leaf k → node ≡ Leaf j → k ≡ j
 leaf_inside k j node a b = let e : Leaf k ≡ Leaf j = sym a ∙ b in cc
 
-cone_frame : (cone : ℕ → Bool) (variable : ℕ → ℕ) (nodes : List Node) (goal : Goal) (width : ℕ) (cited : List Equality) (set : ClauseSet) → IsGraph nodes → HasGoal nodes goal → IsConeBy cone variable nodes goal width cited set → IsFrame cone variable nodes set.leaves
+pub cone_frame : (cone : ℕ → Bool) (variable : ℕ → ℕ) (nodes : List Node) (goal : Goal) (width : ℕ) (cited : List Equality) (set : ClauseSet) → IsGraph nodes → HasGoal nodes goal → IsConeBy cone variable nodes goal width cited set → IsFrame cone variable nodes set.leaves
 cone_frame cone variable nodes goal width cited set graph has_goal s =
     let used = is_used cone cited in
     let inside : (x : ℕ) → cone x ≡ true → x < length nodes = λ x t. cone_within nodes goal x graph has_goal ((s.cone_is x).0 t) in

@@ -1,11 +1,15 @@
 -- The list of a cone's leaves.
-use Rattle.std.proofs.Common.{◌≡◌, ℕ, zero, suc, ◌+◌, ◌-◌, ◌<◌, ◌⊎◌, Bool, List, [], ◌∷◌, ◌++◌, length, get_or, refl, sym, ap, ◌∙◌, subst, arith, inl, inr}
+use Rattle.std.proofs.Common.{◌≡◌, ℕ, zero, suc, ◌+◌, ◌-◌, ◌<◌, ◌⊎◌, Bool, true, false, List, [], ◌∷◌, ◌++◌, length, get_or, refl, sym, ap, ◌∙◌, subst, arith, inl, inr, eq-eqb}
+use Rattle.std.specs.Bool.{IsTrue}
+use Rattle.std.proofs.lemmas.Bool.{eqb-true}
 use Rattle.std.proofs.lemmas.List.{length_push, get_or_push, get_or_append_left}
 use Rattle.pe_graph.specs.declared.graph.Node.{Node}
-use Rattle.pe_graph.specs.declared.graph.Node.TheVariants.{Leaf}
+use Rattle.pe_graph.specs.declared.graph.Node.TheVariants.{True, Leaf, And}
 use Rattle.pe_graph.specs.Nodes.{node_at}
-use Rattle.pe_cnf.specs.Cone.{leaf_number, AreLeaves, HasLeaves}
+use Rattle.pe_graph.specs.Cone.{is_leaf, has_leaf}
+use Rattle.pe_cnf.specs.Cone.{leaf_number, AreLeaves, HasLeaves, HasJust}
 use Rattle.pe_cnf.specs.Marks.{entry_of, IsLeafTable, IsListOf}
+use Rattle.pe_cnf.proofs.MarkLemmas.{or_cases, or_left, or_right, not_both}
 
 lt_or_at : (i n : ℕ) → i < n + 1 → (i < n) ⊎ (i ≡ n)
 lt_or_at i n h = grind arith
@@ -82,3 +86,36 @@ listed_leaves cone variable nodes width table leaves within room t s = record {
       (f.0, f.1, f.2, let a = f.3 in let b = r.1 in omega arith);
   all = λ x k marked is. s.all k (let w = within x k is in omega arith) (t.all x k (no_leaf_past nodes x k is) marked is);
 }
+
+leaf_there : (nodes : List Node) (x k : ℕ) → node_at nodes x ≡ Leaf k → has_leaf nodes k ≡ true
+leaf_there [] x k e = absurd cc
+leaf_there (n ∷ nodes) zero k e = or_left (is_leaf k n) _ (ap (is_leaf k) e ∙ eq-eqb k k refl)
+leaf_there (n ∷ nodes) (suc x) k e = or_right (is_leaf k n) _ (leaf_there nodes x k e)
+
+true_is : (b : Bool) → b ≡ true → IsTrue b
+true_is true e = refl
+true_is false e = absurd (not_both false e refl)
+
+-- where a job has just its leaves, they have numbers below their count
+pub leaves_within : (nodes : List Node) (n : ℕ) → HasJust nodes n → HasLeaves nodes n
+leaves_within nodes n each x k e = (each k).0 (true_is (has_leaf nodes k) (leaf_there nodes x k e))
+
+pub leaf_is_there : (nodes : List Node) (x k : ℕ) → node_at nodes x ≡ Leaf k → IsTrue (has_leaf nodes k)
+leaf_is_there nodes x k e = true_is (has_leaf nodes k) (leaf_there nodes x k e)
+
+is_leaf_of : (k : ℕ) (node : Node) → is_leaf k node ≡ true → node ≡ Leaf k
+is_leaf_of k True h = absurd (not_both false h refl)
+is_leaf_of k (Leaf l) h = ap Leaf (eqb-true l k h)
+is_leaf_of k (And a b) h = absurd (not_both false h refl)
+
+-- a leaf that is there is one of the nodes
+pub leaf_found : (nodes : List Node) (k : ℕ) → has_leaf nodes k ≡ true → (x : ℕ) × (x < length nodes) × (node_at nodes x ≡ Leaf k)
+leaf_found [] k h = absurd (not_both false h refl)
+leaf_found (n ∷ nodes) k h = elim (or_cases (is_leaf k n) (has_leaf nodes k) h) [
+  | inl here ↦ (0, omega arith, is_leaf_of k n here)
+  | inr later ↦ let r = leaf_found nodes k later in (suc r.0, omega (arith, r.1), r.2)
+]
+
+-- the two ways of it together
+pub has_just : (nodes : List Node) (n : ℕ) → HasLeaves nodes n → ((k : ℕ) → k < n → IsTrue (has_leaf nodes k)) → HasJust nodes n
+has_just nodes n below each k = (λ t. let r = leaf_found nodes k t in below r.0 k r.2, each k)

@@ -5,3 +5,5 @@ pub mod ConeLemmas
 pub mod Values
 pub mod GateLemmas
 pub mod Soundness
+pub mod Samples
+pub mod Forced

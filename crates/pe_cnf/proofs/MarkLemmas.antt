@@ -7,7 +7,7 @@ use Rattle.pe_graph.specs.declared.graph.Node.{Node}
 use Rattle.pe_graph.specs.declared.graph.Node.TheVariants.{True, Leaf, And}
 use Rattle.pe_graph.specs.Literals.{var_of}
 use Rattle.pe_graph.specs.Nodes.{node_at, AreBelow}
-use Rattle.pe_cnf.specs.declared.equality.Goal.{Goal}
+use Rattle.pe_graph.specs.declared.job.Goal.{Goal}
 use Rattle.pe_cnf.specs.declared.equality.Equality.{Equality}
 use Rattle.pe_cnf.specs.Cone.{Reaches, here, left, right, InCone, cites, used_before}
 use Rattle.pe_cnf.specs.Marks.{mark_of, names, Spreads}

@@ -3,7 +3,7 @@ use Rattle.std.proofs.Common.{◌≡◌, ℕ, ◌<◌, Bool, true, List, [], ◌
 use Rattle.pe_graph.specs.declared.graph.Node.{Node}
 use Rattle.pe_graph.specs.Literals.{var_of}
 use Rattle.pe_graph.specs.Nodes.{IsGraph}
-use Rattle.pe_cnf.specs.declared.equality.Goal.{Goal}
+use Rattle.pe_graph.specs.declared.job.Goal.{Goal}
 use Rattle.pe_cnf.specs.declared.equality.Equality.{Equality}
 use Rattle.pe_cnf.specs.Clause.{AllBelow}
 use Rattle.pe_cnf.specs.ClauseSet.{ClauseSet}

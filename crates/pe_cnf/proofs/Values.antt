@@ -7,7 +7,7 @@ use Rattle.pe_graph.specs.Literals.{var_of, is_negated, lit_of, complement_of}
 use Rattle.pe_graph.specs.Nodes.{node_at, node_value, values, value_in, IsGraph}
 use Rattle.pe_graph.proofs.Gates.{var_of-complement_of, is_negated-complement_of, value_in-true}
 use Rattle.pe_graph.proofs.Growth.{var_of-lit_of, is_negated-lit_of, value_in-plain}
-use Rattle.pe_cnf.specs.declared.equality.Goal.{Goal}
+use Rattle.pe_graph.specs.declared.job.Goal.{Goal}
 use Rattle.pe_cnf.specs.declared.equality.Equality.{Equality}
 use Rattle.pe_cnf.specs.Clause.{literal_value, clause_value, Satisfies}
 use Rattle.pe_cnf.specs.ClauseSet.{ClauseSet, and_clauses}

@@ -1,7 +1,7 @@
 -- A set of clauses, and what it tells of the cone that it was made from.
 use Rattle.std.specs.Prelude.{ℕ, ◌+◌, ◌*◌, Option, List, [], ◌∷◌, slice_index_or}
 use Rattle.pe_graph.specs.Literals.{complement_of}
-use Rattle.pe_cnf.specs.declared.equality.Goal.{Goal}
+use Rattle.pe_graph.specs.declared.job.Goal.{Goal}
 
 -- the clauses by their numbers, and a number above each variable; of a cone the numbers of its leaves, each with its
 -- variable, how many leaves the job has, the goal, and how many clauses stand before the unit clause of its context

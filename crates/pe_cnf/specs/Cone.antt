@@ -1,11 +1,12 @@
 -- The cone of a goal in a graph, and its clauses.
-use Rattle.std.specs.Prelude.{◌≡◌, ℕ, zero, suc, ◌<◌, ◌==◌, ◌||◌, ◌⊎◌, ◌↔◌, Bool, true, false, cond, Some, List, [], ◌∷◌, ◌++◌, length, slice_index_or}
+use Rattle.std.specs.Prelude.{◌≡◌, ℕ, zero, suc, ◌<◌, ◌==◌, ◌||◌, ◌⊎◌, ◌↔◌, Bool, true, false, cond, Some, List, [], ◌∷◌, ◌++◌, length, slice_index_or, IsTrue}
 use Rattle.std.specs.List.{list_any}
 use Rattle.pe_graph.specs.declared.graph.Node.{Node}
 use Rattle.pe_graph.specs.declared.graph.Node.TheVariants.{True, Leaf, And}
 use Rattle.pe_graph.specs.Literals.{var_of, is_negated, lit_of, complement_of}
 use Rattle.pe_graph.specs.Nodes.{node_at, IsIn}
-use Rattle.pe_cnf.specs.declared.equality.Goal.{Goal}
+use Rattle.pe_graph.specs.Cone.{has_leaf}
+use Rattle.pe_graph.specs.declared.job.Goal.{Goal}
 use Rattle.pe_cnf.specs.declared.equality.Equality.{Equality}
 use Rattle.pe_cnf.specs.ClauseSet.{ClauseSet, and_clauses, leaf_var}
 
@@ -105,3 +106,7 @@ HasCited nodes cited = (x : ℕ) → cites cited x ≡ true → x < length nodes
 -- the graph's leaves have numbers below the width
 abbrev pub HasLeaves : List Node → ℕ → Type 0
 HasLeaves nodes width = (x k : ℕ) → node_at nodes x ≡ Leaf k → k < width
+
+-- the graph has the leaves of the numbers below the count, and no other
+abbrev pub HasJust : List Node → ℕ → Type 0
+HasJust nodes count = (k : ℕ) → IsTrue (has_leaf nodes k) ↔ (k < count)

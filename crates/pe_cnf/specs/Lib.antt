@@ -6,3 +6,4 @@ pub mod Sound
 pub mod Cone
 pub mod Marks
 pub mod Meaning
+pub mod Forced

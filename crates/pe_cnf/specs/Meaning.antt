@@ -3,7 +3,7 @@ use Rattle.std.specs.Prelude.{◌≡◌, ℕ, ◌⊎◌, Bool, true, List, [], �
 use Rattle.pe_graph.specs.declared.graph.Node.{Node}
 use Rattle.pe_graph.specs.Literals.{truth_of}
 use Rattle.pe_graph.specs.Nodes.{value_in}
-use Rattle.pe_cnf.specs.declared.equality.Goal.{Goal}
+use Rattle.pe_graph.specs.declared.job.Goal.{Goal}
 use Rattle.pe_cnf.specs.declared.equality.Equality.{Equality}
 
 -- under the assignment v, the two literals are equal if the context is 1

@@ -2,20 +2,18 @@
 
 ghost use Rattle.std.specs.Prelude.{◌≡◌, ◌↔◌, ◌<◌, IsTrue};
 ghost use Rattle.pe_graph.specs.Nodes.{IsIn};
-ghost use Rattle.pe_cnf.specs.Cone.{HasGoal, HasCited, HasLeaves};
+ghost use Rattle.pe_cnf.specs.Cone.{HasGoal, HasCited};
 
-use crate::equality::{Equality, Goal};
-use pe_graph::{Graph, Lit, Node};
+use crate::equality::Equality;
+use pe_graph::{Goal, Graph, Job, Lit};
 
-/// Whether the goal and the cited equalities are of the graph, and its leaves have numbers below the width, as `cone`
-/// requires: for a caller that cannot know it.
-pub fn is_askable(graph: &Graph, width: u32, goal: &Goal, cited: &[Equality]) -> bool
-    ensures goal { IsTrue result → HasGoal graph.now goal.now }
-    ensures cited { IsTrue result → HasCited graph.now cited.now }
-    ensures width { IsTrue result → HasLeaves graph.now width }
-    ensures only { HasGoal graph.now goal.now → HasCited graph.now cited.now → HasLeaves graph.now width → IsTrue result }
+/// Whether the goal and the cited equalities are of the job's graph, as `cone` requires: for a caller that cannot know it.
+pub fn is_askable(job: &Job, goal: &Goal, cited: &[Equality]) -> bool
+    ensures goal { IsTrue result → HasGoal job.now.graph goal.now }
+    ensures cited { IsTrue result → HasCited job.now.graph cited.now }
+    ensures only { HasGoal job.now.graph goal.now → HasCited job.now.graph cited.now → IsTrue result }
 {
-    has_goal(graph, goal) && has_cited(graph, cited) && has_leaves(graph, width)
+    has_goal(&job.graph, goal) && has_cited(&job.graph, cited)
 }
 
 // Whether the literal is of the graph.
@@ -42,20 +40,6 @@ fn has_cited(graph: &Graph, cited: &[Equality]) -> bool
         }
         if !has(graph, e.b) {
             return false;
-        }
-    }
-    true
-}
-
-// Whether the leaves have numbers below the width.
-fn has_leaves(graph: &Graph, width: u32) -> bool
-    ensures { IsTrue result ↔ HasLeaves graph.now width }
-{
-    for x in 0..graph.nodes() {
-        if let Node::Leaf(number) = graph.node(x) {
-            if number >= width {
-                return false;
-            }
         }
     }
     true

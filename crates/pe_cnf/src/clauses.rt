@@ -1,25 +1,27 @@
 //! The clauses of a question.
 
-ghost use Rattle.std.specs.Prelude.{◌≡◌, ◌≢◌, ℕ, ◌+◌, ◌<◌, ◌≤◌, ◌^◌, Bool, true, false, None, [], List, length, IfOk, EachIndex};
+ghost use Rattle.std.specs.Prelude.{◌≡◌, ◌≢◌, ℕ, ◌+◌, ◌<◌, ◌≤◌, ◌^◌, Bool, true, false, None, [], List, length, take, IfOk, EachIndex};
 ghost use Rattle.std.specs.List.{concat};
 ghost use Rattle.pe_graph.specs.Literals.{var_of};
 ghost use Rattle.pe_graph.specs.declared.graph.Node.{Node};
 ghost use Rattle.pe_graph.specs.Nodes.{value_in, IsGraph};
-ghost use Rattle.pe_cnf.specs.declared.equality.Goal.{Goal as Asked};
+ghost use Rattle.pe_graph.specs.declared.job.Goal.{Goal as Asked};
 ghost use Rattle.pe_cnf.specs.declared.equality.Equality.{Equality as Cited};
 ghost use Rattle.pe_cnf.specs.Clause.{clause_at, IsBelow, AllBelow, Satisfies};
 ghost use Rattle.pe_cnf.specs.Meaning.{AreTrue};
 ghost use Rattle.pe_cnf.specs.ClauseSet.{ClauseSet};
 ghost use Rattle.pe_cnf.specs.Sound.{IsSound};
-ghost use Rattle.pe_cnf.specs.Cone.{IsConeOf, HasGoal, HasCited, HasLeaves};
+ghost use Rattle.pe_cnf.specs.Gates.{IsGated, gate_count};
+ghost use Rattle.pe_cnf.specs.Forced.{AgreeAtLeaves, AreForced, IsForcing};
+ghost use Rattle.pe_cnf.specs.Cone.{IsConeOf, HasGoal, HasCited};
 
-use crate::equality::{Equality, Goal};
+use crate::equality::Equality;
 use crate::gates::{push_cited, push_gates, push_goal};
 use crate::leaves::cone_leaves;
 use crate::list::ClauseList;
 use crate::marks::{mark_cone, number_nodes};
 use pe_base::Want;
-use pe_graph::{Graph, Lit};
+use pe_graph::{Goal, Job, Lit};
 use sqlite_items::Items;
 use std::alloc::Global;
 use std::marker::Model;
@@ -137,21 +139,16 @@ impl Clauses {
     }
 }
 
-/// The clauses of the cone of a goal, with those of the equalities that are cited: the constant's unit clause; three
-/// for each gate of the cone, in node order; that the context is 1; two that say that the sides differ; and two for each
-/// cited equality, in order. `width` is the number of leaves of the whole job.
-pub fn cone(
-    alloc: Global,
-    graph: &Graph,
-    width: u32,
-    goal: Goal,
-    cited: &[Equality],
-) -> Result<Clauses, Want>
-    requires goal { HasGoal graph.now goal }
-    requires cited { HasCited graph.now cited.now }
-    requires width { HasLeaves graph.now width }
-    ensures { IfOk result (λ set. IsConeOf graph.now goal width cited.now set) }
+/// The clauses of the cone of a goal in the graph of a job, with those of the equalities that are cited: the constant's
+/// unit clause; three for each gate of the cone, in node order; that the context is 1; two that say that the sides
+/// differ; and two for each cited equality, in order.
+pub fn cone(alloc: Global, job: &Job, goal: Goal, cited: &[Equality]) -> Result<Clauses, Want>
+    requires goal { HasGoal job.now.graph goal }
+    requires cited { HasCited job.now.graph cited.now }
+    ensures { IfOk result (λ set. IsConeOf job.now.graph goal (length job.now.leaves) cited.now set) }
 {
+    let graph = &job.graph;
+    let width = job.leaves.len() as u32;
     graph.graph_law();
     let marks = mark_cone(alloc, graph, &goal)?;
     let marks = marks.as_slice();
@@ -189,4 +186,17 @@ fn above(clause: &[Lit]) -> u64
 /// assignment of the variables makes each clause true.
 pub fn cone_law()
     ensures { (nodes : List Node) (goal : Asked) (width : ℕ) (cited : List Cited) (set : ClauseSet) (v : ℕ → Bool) → IsGraph nodes → HasGoal nodes goal → HasCited nodes cited → IsConeOf nodes goal width cited set → AreTrue nodes goal.ctx cited → value_in v nodes goal.ctx ≡ true → value_in v nodes goal.a ≢ value_in v nodes goal.b → (w : ℕ → Bool) × Satisfies w set.clauses }
+{}
+
+/// What an assignment of the variables tells that makes the clauses of a cone's gates and of its goal true: an assignment
+/// of the job's leaves that gives those of the cone the same values makes the context 1 and the sides different.
+pub fn counterexample_law()
+    ensures { (nodes : List Node) (goal : Asked) (width : ℕ) (cited : List Cited) (set : ClauseSet) (w v : ℕ → Bool) → IsGraph nodes → HasGoal nodes goal → IsConeOf nodes goal width cited set → AgreeAtLeaves w v set.leaves → Satisfies w (take (set.gates + 3) set.clauses) → (value_in v nodes goal.ctx ≡ true) × (value_in v nodes goal.a ≢ value_in v nodes goal.b) }
+{}
+
+/// What the clauses of gates force, in clause order: the values of the leaves force those of the constant and of the first
+/// gates, and where both inputs of a gate have values, one of its clauses forces a literal of its output.
+pub fn forced_law()
+    ensures values { (set : ClauseSet) (n : ℕ) → IsGated set → n ≤ gate_count set → AreForced set n }
+    ensures units { (set : ClauseSet) (g : ℕ) → IsGated set → g < gate_count set → IsForcing set g }
 {}

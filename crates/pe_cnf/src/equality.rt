@@ -1,4 +1,4 @@
-//! Equalities, and goals.
+//! Equalities.
 
 use pe_graph::Lit;
 
@@ -8,13 +8,4 @@ pub struct Equality {
     pub ctx: Lit,
     pub a: Lit,
     pub b: Lit,
-}
-
-/// The question whether `a` and `b` are equal wherever `ctx` is 1. Its cone has at most `leaves` leaves.
-#[derive(Clone, Copy, Debug, PartialEq, Eq)]
-pub struct Goal {
-    pub ctx: Lit,
-    pub a: Lit,
-    pub b: Lit,
-    pub leaves: u32,
 }

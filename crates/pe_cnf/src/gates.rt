@@ -6,10 +6,10 @@ ghost use Rattle.pe_graph.specs.Nodes.{AreBelow};
 ghost use Rattle.pe_cnf.specs.Cone.{HasGoal, cites, literal_of, node_clauses, gate_clauses, goal_clauses, cited_clauses};
 ghost use Rattle.pe_cnf.specs.Marks.{mark_of, entry_of};
 
-use crate::equality::{Equality, Goal};
+use crate::equality::Equality;
 use crate::list::ClauseList;
 use pe_base::Want;
-use pe_graph::{Graph, Lit, Node};
+use pe_graph::{Goal, Graph, Lit, Node};
 
 /// Appends the clauses of the gates of a cone, in node order.
 pub fn push_gates(

@@ -9,11 +9,14 @@ mod gates;
 mod leaves;
 mod list;
 mod marks;
+mod plain;
 
 pub use askable::is_askable;
-pub use clauses::{Clauses, cone, cone_law};
-pub use equality::{Equality, Goal};
+pub use clauses::{Clauses, cone, cone_law, counterexample_law, forced_law};
+pub use equality::Equality;
 pub use list::ClauseList;
+pub use pe_graph::Goal;
+pub use plain::plain_job;
 
 #[cfg(test)]
 mod tests;

@@ -5,9 +5,9 @@ ghost use Rattle.pe_graph.specs.Nodes.{AreBelow};
 ghost use Rattle.pe_cnf.specs.Cone.{InCone, HasGoal, cites, is_used};
 ghost use Rattle.pe_cnf.specs.Marks.{mark_of, entry_of, names, Spreads, AreNumbers};
 
-use crate::equality::{Equality, Goal};
+use crate::equality::Equality;
 use pe_base::Want;
-use pe_graph::{Graph, Node};
+use pe_graph::{Goal, Graph, Node};
 use sqlite_items::Items;
 use std::alloc::Global;
 

@@ -1,7 +1,8 @@
-use crate::{ClauseList, Clauses, Equality, Goal, cone, is_askable};
+use crate::{ClauseList, Clauses, Equality, Goal, cone, is_askable, plain_job};
 use pe_base::Want;
-use pe_graph::{Graph, Lit};
+use pe_graph::{Graph, Job, Leaf, Lit};
 use sqlite_items::Items;
+use std::alloc::Global;
 use std::process::Abort;
 use std::test::Fail;
 
@@ -17,6 +18,15 @@ fn one_of(rt: &impl Abort, graph: &mut Graph, a: Lit, b: Lit) -> Result<Lit, Wan
     let all = both(rt, graph, a, b)?;
     let none = both(rt, graph, a.complement(), b.complement())?;
     both(rt, graph, all.complement(), none.complement())
+}
+
+// The job of the graph, if its leaves are so many inputs.
+fn job_of(alloc: Global, graph: Graph, count: u32) -> Result<Option<Job>, Want> {
+    let mut leaves = Items::new(alloc);
+    for input in 0..count {
+        leaves.push(Leaf::Input { cycle: 1, input })?;
+    }
+    Ok(plain_job(alloc, graph, leaves))
 }
 
 // The clause of each number is the row, and the flat list has the rows one behind the other.
@@ -63,8 +73,9 @@ fn cone_of_six_gates(rt: HostRuntime) -> Result<(), Fail> {
         a: seen,
         b: sum.complement(),
     }];
-    assert!(rt; is_askable(&graph, 6, &goal, &cited));
-    let set = cone(alloc, &graph, 6, goal, &cited)?;
+    let job = job_of(alloc, graph, 6)?.ok_or("its leaves")?;
+    assert!(rt; is_askable(&job, &goal, &cited));
+    let set = cone(alloc, &job, goal, &cited)?;
     let rows: [&[u64]; 24] = [
         &[0],
         &[9, 2],
@@ -120,16 +131,29 @@ fn just_these_lists(rt: HostRuntime) -> Result<(), Fail> {
 }
 
 #[test]
-fn leaf_beyond_the_width(rt: HostRuntime) -> Result<(), Fail> {
-    let mut graph = Graph::new(rt.alloc())?;
-    let a = graph.leaf(7)?;
-    let goal = Goal {
-        ctx: Lit::truth(true),
-        a,
-        b: Lit::truth(false),
-        leaves: 1,
-    };
-    assert!(rt; is_askable(&graph, 8, &goal, &[]));
-    assert!(rt; !is_askable(&graph, 7, &goal, &[]));
+fn what_can_be_asked(rt: HostRuntime) -> Result<(), Fail> {
+    let alloc = rt.alloc();
+    for (count, made) in [(0, false), (1, false), (2, true), (3, false)] {
+        let mut graph = Graph::new(alloc)?;
+        graph.leaf(1)?;
+        graph.leaf(0)?;
+        assert!(rt;
+            job_of(alloc, graph, count)?.is_some() == made,
+            "{count} leaves"
+        );
+    }
+    let mut graph = Graph::new(alloc)?;
+    let a = graph.leaf(0)?;
+    let job = job_of(alloc, graph, 1)?.ok_or("its leaf")?;
+    let last = Lit::of(2, false);
+    for (b, asked) in [(a, true), (last, false)] {
+        let goal = Goal {
+            ctx: Lit::truth(true),
+            a,
+            b,
+            leaves: 1,
+        };
+        assert!(rt; is_askable(&job, &goal, &[]) == asked);
+    }
     Ok(())
 }

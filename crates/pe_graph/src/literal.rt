@@ -7,7 +7,7 @@ use std::marker::Model;
 
 /// A node of a graph or its complement. Contracts see it as a number: twice the number of its node, and one more where
 /// it is complemented.
-#[derive(Clone, Copy, Debug, PartialEq, Eq, Hash)]
+#[derive(Clone, Copy, Debug, Default, PartialEq, Eq, Hash)]
 pub struct Lit {
     code: u64,
 }

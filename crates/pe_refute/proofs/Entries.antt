@@ -1,18 +1,15 @@
 -- The equalities that an entry cites.
-use Rattle.std.proofs.Common.{◌≡◌, ℕ, zero, suc, ◌+◌, ◌<◌, ◌↔◌, ◌++◌, Bool, true, false, Option, None, Some, List, [], ◌∷◌, length, get_or, take, refl, sym, ap, ◌∙◌, subst, arith, inl, inr, eq-eqb}
+use Rattle.std.proofs.Common.{◌≡◌, ℕ, zero, suc, ◌+◌, ◌<◌, ◌++◌, true, false, Option, None, Some, List, [], ◌∷◌, length, get_or, take, refl, sym, ap, ◌∙◌, subst, arith, inl, inr}
 use Rattle.std.specs.List.{All}
-use Rattle.std.specs.Bool.{IsTrue}
 use Rattle.std.proofs.lemmas.Bool.{eqb-true}
 use Rattle.pe_graph.specs.Literals.{var_of}
 use Rattle.pe_graph.specs.declared.graph.Node.{Node}
-use Rattle.pe_graph.specs.declared.graph.Node.TheVariants.{Leaf}
-use Rattle.pe_graph.specs.Nodes.{node_at, IsIn}
-use Rattle.pe_graph.specs.Cone.{is_leaf, has_leaf}
+use Rattle.pe_graph.specs.Nodes.{IsIn}
 use Rattle.pe_cnf.specs.declared.equality.Equality.{Equality}
-use Rattle.pe_cnf.specs.Cone.{cites, HasCited, HasLeaves}
+use Rattle.pe_cnf.specs.Cone.{cites, HasCited}
 use Rattle.pe_cnf.specs.Meaning.{AreTrue, Holds}
 use Rattle.pe_refute.specs.Entries.{seen_at, fits, AreLawful, with_seen, cited_of, AreSeenIn}
-use Rattle.pe_refute.proofs.Sight.{or_cases, or_left, or_right}
+use Rattle.pe_refute.proofs.Sight.{or_cases}
 use Rattle.pe_refute.proofs.Walk.{false_is_true}
 use Rattle.std.proofs.lemmas.List.{append-nil}
 
@@ -70,16 +67,3 @@ pub cited_true : (nodes : List Node) (ctx : ℕ) (seen : List (Option Equality))
 cited_true nodes ctx seen [] l h = tt
 cited_true nodes ctx seen (k ∷ places) l h =
     one_true nodes ctx (seen_at seen k) (cited_of seen places) (l 0 (omega arith)) h (cited_true nodes ctx seen places (λ i lt. l (suc i) (omega arith)))
-
-leaf_there : (nodes : List Node) (x k : ℕ) → node_at nodes x ≡ Leaf k → has_leaf nodes k ≡ true
-leaf_there [] x k e = absurd cc
-leaf_there (n ∷ nodes) zero k e = or_left (is_leaf k n) _ (ap (is_leaf k) e ∙ eq-eqb k k refl)
-leaf_there (n ∷ nodes) (suc x) k e = or_right (is_leaf k n) _ (leaf_there nodes x k e)
-
-pub true_is : (b : Bool) → b ≡ true → IsTrue b
-true_is true e = refl
-true_is false e = absurd (false_is_true false refl e)
-
--- a job's leaves have numbers below their count
-pub leaves_within : (nodes : List Node) (n : ℕ) → ((k : ℕ) → IsTrue (has_leaf nodes k) ↔ (k < n)) → HasLeaves nodes n
-leaves_within nodes n each x k e = (each k).0 (true_is (has_leaf nodes k) (leaf_there nodes x k e))

@@ -7,7 +7,7 @@ use Rattle.pe_refute.specs.Chain.{clause_of, all_clauses}
 use Rattle.pe_refute.specs.declared.evidence.Derived.{Derived}
 use Rattle.pe_refute.proofs.Walk.{false_is_true}
 
-lt_or_le : (a b : ℕ) → (a < b) ⊎ (b ≤ a)
+pub lt_or_le : (a b : ℕ) → (a < b) ⊎ (b ≤ a)
 lt_or_le a b = grind arith
 
 length-map : (chain : List Derived) → length (map clause_of chain) ≡ length chain

@@ -3,8 +3,13 @@ use Rattle.std.specs.Prelude.{◌≡◌, ℕ, ◌-◌, ◌<◌, ◌++◌, List, 
 use Rattle.pe_refute.specs.Follow.{Follows}
 use Rattle.pe_refute.specs.declared.evidence.Derived.{Derived}
 
+-- the literals of a derived clause
 abbrev pub clause_of : Derived → List ℕ
-clause_of d = d.clause
+clause_of d = d.clause.items
+
+-- the numbers of the clauses along which it follows
+abbrev pub hints_of : Derived → List ℕ
+hints_of d = d.hints.items
 
 -- the given clauses, and behind them those derived
 abbrev pub all_clauses : List (List ℕ) → List Derived → List (List ℕ)
@@ -14,7 +19,7 @@ all_clauses given chain = given ++ map clause_of chain
 abbrev pub DerivedUpTo : List (List ℕ) → List Derived → ℕ → Type 0
 DerivedUpTo given chain n =
     (k : ℕ) (d : Derived) → k < n →
-    Follows (all_clauses given (take k chain)) (clause_of (slice_index_or chain k d)) (slice_index_or chain k d).hints
+    Follows (all_clauses given (take k chain)) (clause_of (slice_index_or chain k d)) (hints_of (slice_index_or chain k d))
 
 -- there is a last clause, and it is empty
 abbrev pub EndsEmpty : List Derived → Type 0

@@ -4,7 +4,7 @@ use Rattle.pe_graph.specs.Literals.{truth_of}
 use Rattle.pe_graph.specs.declared.graph.Node.{Node}
 use Rattle.pe_graph.specs.Nodes.{IsIn}
 use Rattle.pe_graph.specs.declared.job.Job.{Job}
-use Rattle.pe_cnf.specs.declared.equality.Goal.{Goal}
+use Rattle.pe_graph.specs.declared.job.Goal.{Goal}
 use Rattle.pe_cnf.specs.declared.equality.Equality.{Equality}
 use Rattle.pe_cnf.specs.ClauseSet.{ClauseSet}
 use Rattle.pe_cnf.specs.Cone.{IsConeOf}

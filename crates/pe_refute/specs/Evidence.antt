@@ -2,7 +2,7 @@
 use Rattle.std.specs.Prelude.{ℕ, List, map}
 use Rattle.pe_graph.specs.declared.graph.Node.{Node}
 use Rattle.pe_graph.specs.Nodes.{IsGraph}
-use Rattle.pe_cnf.specs.declared.equality.Goal.{Goal}
+use Rattle.pe_graph.specs.declared.job.Goal.{Goal}
 use Rattle.pe_cnf.specs.declared.equality.Equality.{Equality}
 use Rattle.pe_cnf.specs.ClauseSet.{ClauseSet}
 use Rattle.pe_cnf.specs.Cone.{IsConeOf, HasGoal, HasCited}

@@ -3,7 +3,7 @@ use Rattle.std.specs.Prelude.{◌≡◌, ℕ, ◌+◌, ◌^◌, ◌<◌, ◌≤�
 use Rattle.pe_cnf.specs.Clause.{Satisfies}
 use Rattle.pe_cnf.specs.ClauseSet.{ClauseSet}
 use Rattle.pe_refute.specs.Follow.{Follows}
-use Rattle.pe_refute.specs.Chain.{clause_of, all_clauses, DerivedUpTo, EndsEmpty}
+use Rattle.pe_refute.specs.Chain.{clause_of, hints_of, all_clauses, DerivedUpTo, EndsEmpty}
 use Rattle.pe_refute.specs.Table.{Assigns}
 use Rattle.pe_refute.specs.declared.evidence.Derived.{Derived}
 use Rattle.pe_refute.specs.declared.evidence.Evidence.{Evidence}
@@ -12,7 +12,7 @@ use Rattle.pe_refute.specs.declared.evidence.Evidence.TheVariants.{Table, Chain}
 -- the clause of this step does not follow from those before it
 abbrev pub IsNotDerived : List (List ℕ) → List Derived → ℕ → Type 0
 IsNotDerived given chain step =
-    (d : Derived) → Follows (all_clauses given (take step chain)) (clause_of (slice_index_or chain step d)) (slice_index_or chain step d).hints → ⊥
+    (d : Derived) → Follows (all_clauses given (take step chain)) (clause_of (slice_index_or chain step d)) (hints_of (slice_index_or chain step d)) → ⊥
 
 -- the clauses before this step follow; its own does not, or it is the chain's length and the last clause is not empty
 pub record IsChainFault (given : List (List ℕ)) (chain : List Derived) (step : ℕ) : Type 0 where

@@ -2,9 +2,8 @@
 
 ghost use Rattle.std.specs.Prelude.{◌≡◌, ◌≤◌, ℕ, ◌^◌, ◌<◌, Option, None, Some, All, length, IfOk, MatchOption, MatchResult, map};
 ghost use Rattle.std.specs.Arc.{arc_value};
-ghost use Rattle.pe_graph.specs.declared.graph.Node.{Node};
 ghost use Rattle.pe_cnf.specs.Clause.{IsBelow, AllBelow};
-ghost use Rattle.pe_cnf.specs.Cone.{HasGoal, HasCited, HasLeaves};
+ghost use Rattle.pe_cnf.specs.Cone.{HasGoal, HasCited};
 ghost use Rattle.pe_cnf.specs.Meaning.{AreTrue, Holds, IsProved};
 ghost use Rattle.pe_refute.specs.Chain.{clause_of};
 ghost use Rattle.pe_refute.specs.Evidence.{IsWithin};
@@ -16,7 +15,7 @@ use crate::evidence::{Derived, Evidence};
 use crate::scratch::Scratch;
 use pe_base::Want;
 use pe_cnf::{Equality, Goal, cone};
-use pe_graph::{Graph, Job, Lit};
+use pe_graph::{Job, Lit};
 use sqlite_items::Items;
 use std::alloc::Global;
 use std::sync::Arc;
@@ -60,41 +59,31 @@ fn examine(
     ensures proved { IfOk result (λ r. r.0 ≡ None → All (Holds job.now.graph) r.1 → Holds job.now.graph entry.now.eq) }
 {
     let cited = gather(alloc, seen, entry.cites.as_slice())?;
-    let width = job.leaves.len() as u32;
-    let fault = judge(
-        alloc,
-        &job.graph,
-        width,
-        &entry.eq,
-        cited.as_slice(),
-        &entry.evidence,
-    )?;
+    let fault = judge(alloc, job, &entry.eq, cited.as_slice(), &entry.evidence)?;
     Ok((fault, cited))
 }
 
 // The first step at which evidence is wrong over the clauses of an equality's cone.
 fn judge(
     alloc: Global,
-    graph: &Graph,
-    width: u32,
+    job: &Job,
     eq: &Equality,
     cited: &[Equality],
     evidence: &Evidence,
 ) -> Result<Option<u64>, Want>
-    requires goal { HasGoal graph.now (goal_of 0 eq.now) }
-    requires cited { HasCited graph.now cited.now }
-    requires width { HasLeaves graph.now width }
-    ensures judged { IfOk result (IsJudged graph.now width eq.now cited.now evidence.now) }
-    ensures proved { IfOk result (λ fault. fault ≡ None → AreTrue graph.now eq.now.ctx cited.now → Holds graph.now eq.now) }
+    requires goal { HasGoal job.now.graph (goal_of 0 eq.now) }
+    requires cited { HasCited job.now.graph cited.now }
+    ensures judged { IfOk result (IsJudged job.now.graph (length job.now.leaves) eq.now cited.now evidence.now) }
+    ensures proved { IfOk result (λ fault. fault ≡ None → AreTrue job.now.graph eq.now.ctx cited.now → Holds job.now.graph eq.now) }
 {
-    graph.graph_law();
+    job.graph.graph_law();
     let goal = Goal {
         ctx: eq.ctx,
         a: eq.a,
         b: eq.b,
-        leaves: width,
+        leaves: job.leaves.len() as u32,
     };
-    let set = cone(alloc, graph, width, goal, cited)?;
+    let set = cone(alloc, job, goal, cited)?;
     let vars = set.vars().max(vars_of(evidence));
     let mut scratch = Scratch::new(alloc, vars)?;
     Ok(first_fault(&set, evidence, &mut scratch))

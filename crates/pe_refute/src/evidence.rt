@@ -1,13 +1,13 @@
 //! What is given as evidence.
 
 use pe_graph::Lit;
-use sqlite_items::Items;
+use smallvec::SmallVec;
 
 /// A clause, and the numbers of the clauses along which it follows.
 #[derive(Drop)]
 pub struct Derived {
-    pub clause: Items<Lit>,
-    pub hints: Items<u64>,
+    pub clause: SmallVec<Lit, 6>,
+    pub hints: SmallVec<u64, 8>,
 }
 
 /// Why the sides of a goal are equal wherever its context is 1.

@@ -12,14 +12,18 @@ use pe_cnf::Clauses;
 use pe_graph::Lit;
 
 /// What a clause gives under what is known.
-#[derive(Clone, Copy)]
+#[derive(Clone, Copy, Debug, PartialEq, Eq)]
 pub enum Effect {
+    /// Each literal is known to be false.
     Conflict,
+    /// This literal has no value, and each other one is known to be false.
     Unit(Lit),
+    /// Neither of the two.
     Neither,
 }
 
-/// Whether the clause follows along the hints from the given clauses and the earlier ones.
+/// Whether the clause follows along the hints from the given clauses and the earlier ones: with its literals false, each
+/// hint's clause gives a new unit, and the last a conflict. The scratch has room for the variables of all of them.
 pub fn follows(
     given: &Clauses,
     earlier: &[Derived],
@@ -58,8 +62,8 @@ fn deny(clause: &[Lit], scratch: &mut Scratch)
     }
 }
 
-// The clause of the number, given or derived.
-fn find_clause<'a>(given: &'a Clauses, earlier: &'a [Derived], id: u64) -> Option<&'a [Lit]>
+/// The clause of the number: a given one, or a derived one behind them. None if there is none.
+pub fn find_clause<'a>(given: &'a Clauses, earlier: &'a [Derived], id: u64) -> Option<&'a [Lit]>
     ensures { MatchOption result (length (all_clauses given.now.clauses earlier.now) ≤ id) (λ c. (id < length (all_clauses given.now.clauses earlier.now)) × (c.now ≡ clause_at (all_clauses given.now.clauses earlier.now) id)) }
 {
     let count = given.count();
@@ -72,8 +76,9 @@ fn find_clause<'a>(given: &'a Clauses, earlier: &'a [Derived], id: u64) -> Optio
     }
 }
 
-// What the clause gives under what the scratch knows.
-fn look(scratch: &Scratch, clause: &[Lit]) -> Effect
+/// What the clause gives under what the scratch knows: a conflict where each of its literals is known to be false, a
+/// unit where that is so of all but one that has no value.
+pub fn look(scratch: &Scratch, clause: &[Lit]) -> Effect
     requires { IsBelow scratch.now.vars clause.now }
     ensures { Gives (knows_of scratch.now) clause.now result }
 {

@@ -1,5 +1,13 @@
+pub mod Building
+pub mod Drivers
 pub mod Gathering
+pub mod Labels
+pub mod Numbers
+pub mod Plans
 pub mod Rows
 pub mod States
 pub mod Steps
+pub mod Tables
+pub mod Uses
 pub mod WellFormed
+pub mod Whole

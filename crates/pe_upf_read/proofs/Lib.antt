@@ -1,3 +1,5 @@
 pub mod Trees
 pub mod Spellings
 pub mod Needed
+pub mod Inverse
+pub mod Functions

@@ -5,3 +5,4 @@ pub mod Names
 pub mod Options
 pub mod Meaning
 pub mod Spelling
+pub mod Format

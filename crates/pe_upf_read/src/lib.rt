@@ -11,7 +11,7 @@ mod table;
 mod terminals;
 
 pub use intent::{Command, Flow, Intent, Sense, Side};
-pub use reading::{needed_options, one_upf, read_upf};
+pub use reading::{function_law, needed_options, one_upf, read_upf};
 
 #[cfg(test)]
 mod tests;

@@ -10,7 +10,11 @@ ghost use Rattle.pe_text.specs.Scan.{IsScanned};
 ghost use Rattle.pe_text.specs.declared.fault.ReadFault.{ReadFault};
 ghost use Rattle.pe_text.specs.declared.fault.ReadFault.TheVariants.{Memory};
 ghost use Rattle.pe_text.specs.declared.language.Lang.TheVariants.{Upf};
+ghost use Rattle.pe_grammar.specs.declared.terminal.Token.{Token as Terminal};
+ghost use Rattle.pe_text.specs.declared.token.Token.{Token as Cut};
+ghost use Rattle.pe_upf_read.specs.declared.intent.Command.{Command as Said};
 ghost use Rattle.pe_upf_read.specs.declared.intent.Intent.{Intent};
+ghost use Rattle.pe_upf_read.specs.Format.{IsSetByFormat, IsSetByGrammar};
 ghost use Rattle.pe_upf_read.specs.Options.{has};
 ghost use Rattle.pe_upf_read.specs.Parts.{each};
 ghost use Rattle.pe_reader.specs.Places.{byte_of};
@@ -90,4 +94,11 @@ pub fn needed_options()
     ensures row { (d : Derivation) → Derives UPF AT_ROW_OPTIONS d → (has PST (each d) ≡ true) × (has STATE (each d) ≡ true) }
     ensures isolation { (d : Derivation) → Derives UPF AT_ISOLATION_OPTIONS d → has DOMAIN (each d) ≡ true }
     ensures retention { (d : Derivation) → Derives UPF AT_RETENTION_OPTIONS d → has DOMAIN (each d) ≡ true }
+{}
+
+/// The options `-function` of a supply set: the grammar, which tells them apart by their next token, has just the lists of
+/// them that the rule of the format has, one for power and one for ground in any order, each at most once, and gives each list
+/// the same power and the same ground.
+pub fn function_law()
+    ensures by_rule { (text : List ℕ) (tokens : List Cut) (name : List ℕ) (ts : List Terminal) (c : Said) → IsSetByGrammar text tokens name ts c ↔ IsSetByFormat text tokens name ts c }
 {}

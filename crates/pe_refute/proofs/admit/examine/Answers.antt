@@ -1,19 +1,15 @@
-use Rattle.std.proofs.Common.{◌≡◌, subst, sym, ap, ◌∙◌, length}
+use Rattle.std.proofs.Common.{◌≡◌, subst, sym, ap, ◌∙◌}
 use Rattle.std.specs.List.{All}
-use Rattle.pe_cnf.specs.Cone.{HasCited, HasLeaves}
+use Rattle.pe_cnf.specs.Cone.{HasCited}
 use Rattle.pe_cnf.specs.Meaning.{AreTrue, Holds}
 use Rattle.pe_refute.specs.Entries.{cited_of}
-use Rattle.pe_refute.proofs.Entries.{cited_within, cited_true, leaves_within}
+use Rattle.pe_refute.proofs.Entries.{cited_within, cited_true}
 use Rattle.pe_refute.proofs.admit.examine.Goals as goal
 
 pub judge-requires-clause-cited : goal.judge-requires-clause-cited
 judge-requires-clause-cited c =
     let all : c.as_slice-2.result.now ≡ cited_of c.args.seen.now c.args.entry.now.cites = c.as_slice-2.ensures ∙ c.in_ok-cited.ensures ∙ ap (cited_of c.args.seen.now) c.as_slice.ensures in
     subst (HasCited c.args.job.now.graph) (sym all) (cited_within c.args.job.now.graph c.args.seen.now c.args.entry.now.cites c.requires.seen)
-
-pub judge-requires-clause-width : goal.judge-requires-clause-width
-judge-requires-clause-width c =
-    subst (HasLeaves c.args.job.now.graph) (sym c.len-width.ensures) (leaves_within c.args.job.now.graph (length c.args.job.now.leaves) c.args.job.now.leaf_each)
 
 pub returns-clause-proved : goal.returns-clause-proved
 returns-clause-proved c = λ is h.

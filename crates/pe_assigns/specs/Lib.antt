@@ -1,0 +1,4 @@
+pub mod Logic
+pub mod Form
+pub mod Settled
+pub mod Begin

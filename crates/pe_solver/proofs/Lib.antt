@@ -1,0 +1,10 @@
+pub mod Literals
+pub mod Idle
+pub mod Walks
+pub mod Parted
+pub mod MaskLemmas
+pub mod Growth
+pub mod Settled
+pub mod Enumerate
+pub mod Samples
+pub mod Outcomes

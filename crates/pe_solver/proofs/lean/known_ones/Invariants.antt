@@ -1,0 +1,7 @@
+use Rattle.std.proofs.Common.{◌≡◌, ℕ, take, ◌&&◌}
+use Rattle.pe_cnf.specs.Clause.{has}
+use Rattle.pe_refute.specs.Known.{knows_of}
+use Rattle.pe_solver.proofs.lean.known_ones.Given as goal
+
+abbrev pub invariant-loop-l : goal.invariant-loop-l
+invariant-loop-l l = (m : ℕ) → has l.kept.items m ≡ (has (take l.l-index l.clause) m && knows_of l.scratch m)

@@ -1,0 +1,6 @@
+use Rattle.std.proofs.Common.{◌≡◌, ℕ, take, true}
+use Rattle.pe_cnf.specs.Clause.{has}
+use Rattle.pe_solver.proofs.same.is_part.Given as goal
+
+abbrev pub invariant-loop-l : goal.invariant-loop-l
+invariant-loop-l l = (m : ℕ) → has (take l.l-index l.clause) m ≡ true → has l.other m ≡ true
