@@ -10,6 +10,3 @@ mod settling;
 pub use form::is_rtl_form;
 pub use names::{input_names, nets, output_names, port_names};
 pub use settling::{rtl_settled_law, settle};
-
-#[cfg(test)]
-mod tests;

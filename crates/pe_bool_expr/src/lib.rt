@@ -22,6 +22,3 @@ pub use expr::Expr;
 pub use fault::ExprFault;
 pub use reading::{one_function, parse};
 pub use style::Style;
-
-#[cfg(test)]
-mod tests;

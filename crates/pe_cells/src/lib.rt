@@ -27,8 +27,3 @@ pub use outputs::{output, pin_values, value};
 pub use power::{has_switch_on, is_powered, is_retained, pg_value};
 pub use register::{complement, control};
 pub use viewing::{one_view, view};
-
-#[cfg(test)]
-mod tests;
-#[cfg(test)]
-mod view_tests;

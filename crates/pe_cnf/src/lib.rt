@@ -17,6 +17,3 @@ pub use equality::Equality;
 pub use list::ClauseList;
 pub use pe_graph::Goal;
 pub use plain::plain_job;
-
-#[cfg(test)]
-mod tests;

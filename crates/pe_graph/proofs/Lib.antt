@@ -2,4 +2,3 @@ pub mod TableLemmas
 pub mod Growth
 pub mod Gates
 pub mod Evaluation
-pub mod SmallJob

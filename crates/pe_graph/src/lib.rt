@@ -13,6 +13,3 @@ pub use job::{Goal, Job, Leaf};
 pub use literal::Lit;
 pub use marks::Marks;
 pub use named::{Named, Names, Point, Shown};
-
-#[cfg(test)]
-mod tests;

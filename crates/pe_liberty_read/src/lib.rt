@@ -10,6 +10,3 @@ mod tree;
 
 pub use reading::{format_law, one_liberty, read_liberty};
 pub use tree::{Attr, Group};
-
-#[cfg(test)]
-mod tests;

@@ -22,6 +22,3 @@ pub use extension::exact;
 pub use numbers::{add, greater, greater_equal, less, less_equal, subtract};
 pub use register::{RegisterRails, isolated, next_main, next_shadow, visible};
 pub use shifts::{pick, shift_left, shift_right};
-
-#[cfg(test)]
-mod tests;

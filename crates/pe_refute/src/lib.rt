@@ -20,6 +20,3 @@ pub use evidence::{Derived, Evidence};
 pub use follow::{Effect, find_clause, follows, look};
 pub use scratch::Scratch;
 pub use table::table_fault;
-
-#[cfg(test)]
-mod tests;

@@ -24,6 +24,3 @@ mod watches;
 pub use decision::Decision;
 pub use outcome::decide;
 pub use questions::question;
-
-#[cfg(test)]
-mod tests;

@@ -22,8 +22,3 @@ pub use permitted::{StepFault, steps};
 pub use rows::holds;
 pub use state::state_law;
 pub use supplies::{Level, Row, Supplies, Switch};
-
-#[cfg(test)]
-mod intents;
-#[cfg(test)]
-mod tests;

@@ -37,8 +37,3 @@ pub use mode::Mode;
 pub use run::{Base, Run};
 pub use scanning::scan;
 pub use token::{Kind, Token};
-
-#[cfg(test)]
-mod scan_tests;
-#[cfg(test)]
-mod tests;

@@ -12,6 +12,3 @@ mod terminals;
 
 pub use intent::{Command, Flow, Intent, Sense, Side};
 pub use reading::{function_law, needed_options, one_upf, read_upf};
-
-#[cfg(test)]
-mod tests;

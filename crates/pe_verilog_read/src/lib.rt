@@ -22,6 +22,3 @@ mod whole;
 mod words;
 
 pub use reading::{one_source, read_verilog};
-
-#[cfg(test)]
-mod tests;
