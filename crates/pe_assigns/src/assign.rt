@@ -29,8 +29,8 @@ fn is_plain(port: &Port) -> bool
     (is_input(port.dir) || is_output(port.dir)) && port.kind.is_none() && port.range.is_none()
 }
 
-// Whether a port of the head is declared there, and is such.
-pub(crate) fn is_plain_port(port: &HeadPort) -> bool
+/// Whether a port of the head is declared there, with one bit, as an input or an output, and with no kind.
+pub fn is_plain_port(port: &HeadPort) -> bool
     ensures { result ≡ is_plain_port_of port.now }
 {
     match port {
@@ -77,8 +77,8 @@ pub(crate) fn target_of(target: &Target) -> Option<&Name>
     }
 }
 
-// The net that an item declares: `wire NAME;`.
-pub(crate) fn wire_of(item: &Item) -> Option<&Name>
+/// The net that an item declares: `wire NAME;`.
+pub fn wire_of(item: &Item) -> Option<&Name>
     ensures { MatchOption result (wires_in item.now ≡ []) (λ name. wires_in item.now ≡ name.now ∷ []) }
 {
     match item {

@@ -7,6 +7,8 @@ mod logic;
 mod names;
 mod settling;
 
+pub use assign::{is_plain_port, wire_of};
 pub use form::is_rtl_form;
+pub use logic::is_whole;
 pub use names::{input_names, nets, output_names, port_names};
 pub use settling::{rtl_settled_law, settle};

@@ -8,9 +8,9 @@ use pe_base::{NameSet, Val, and, not, or};
 use pe_nets::NameIndex;
 use pe_verilog_ast::{BinOp, Ex, Operand, Select, UnOp};
 
-// Whether the whole net is meant.
+/// Whether the whole net is meant, and no bits of it.
 #[tactic(auto, using(crate::proofs::Layers::layers))]
-pub(crate) fn is_whole(select: &Select) -> bool
+pub fn is_whole(select: &Select) -> bool
     ensures { result ≡ is_whole select.now }
 {
     match select {

@@ -6,6 +6,10 @@ mod assigns;
 #[cfg(test)]
 mod cells;
 #[cfg(test)]
+mod circuits;
+#[cfg(test)]
+mod domains;
+#[cfg(test)]
 mod intents;
 #[cfg(test)]
 mod supplies;
