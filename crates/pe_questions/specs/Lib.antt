@@ -1,0 +1,4 @@
+pub mod Answers
+pub mod Assignments
+pub mod Cases
+pub mod Questions
