@@ -1,19 +1,16 @@
 -- What the texts that are judged have to do with what is told of the files.
-use Rattle.std.specs.Prelude.{◌≡◌, ◌⊎◌, ℕ, ◌<◌, List, [], ◌∷◌, length}
+use Rattle.std.specs.Prelude.{◌≡◌, ◌⊎◌, ℕ, ◌<◌, List, length}
 use Rattle.pe_base.specs.declared.text.Texts.{Texts}
 use Rattle.pe_outside.specs.Outside.{HasRisen}
+use Rattle.pe_text.specs.Scan.{most_bytes}
 use Rattle.pe_tool.specs.declared.read.ReadStop.{ReadStop}
 use Rattle.pe_tool.specs.declared.read.ReadStop.TheVariants.{Memory, Failed}
 use Rattle.pe_tool.specs.declared.read.Names.{Names}
 use Rattle.pe_tool.specs.Run.{FileNames, IsOneOf}
 
--- A text that no language has: a quote that is not closed.
-abbrev pub unspelled : List ℕ
-unspelled = 34 ∷ []
-
--- A text is the file's, or it is a text that no language has, and the file is over its limit.
+-- A text is the file's, or it is over the limit as the file is.
 abbrev pub StandsFor : List ℕ → List ℕ → Type 0
-StandsFor text file = (text ≡ file) ⊎ ((text ≡ unspelled) × (16777216 < length file))
+StandsFor text file = (text ≡ file) ⊎ ((most_bytes < length text) × (most_bytes < length file))
 
 -- so do five texts
 pub record StandFor (texts files : Texts) : Type 0 where

@@ -1,46 +1,44 @@
--- What the program prints, as bytes. Each line ends with LF.
-use Rattle.std.specs.Prelude.{ℕ, ◌-◌, ◌==◌, Bool, true, false, cond, List, [], ◌∷◌, ◌++◌, map, length, count_by, is_some, codes, Option, Some, None}
+-- What the program prints of a design and the answers to its questions, as bytes. Each line ends with LF.
+use Rattle.std.specs.Prelude.{ℕ, ◌+◌, ◌==◌, Bool, true, false, cond, List, [], ◌∷◌, ◌++◌, map, count_by, codes, find, Option, Some, None}
 use Rattle.std.specs.Fmt.{decimal}
 use Rattle.pe_base.specs.declared.value.Val.{Val}
 use Rattle.pe_base.specs.declared.value.Val.TheVariants.{Zero, One, Corrupt}
 use Rattle.pe_base.specs.declared.text.Step.{Step}
 use Rattle.pe_base.specs.declared.text.Step.TheVariants.{Start, Pair}
-use Rattle.pe_verilog_plain.specs.Ports.{input_names, output_names}
-use Rattle.pe_tool.specs.declared.design.Design.{Design}
-use Rattle.pe_tool.specs.declared.question.Question.{Question}
-use Rattle.pe_tool.specs.declared.question.Point.{Point}
-use Rattle.pe_tool.specs.declared.question.Point.TheVariants.{Output}
-use Rattle.pe_tool.specs.Questions.{roots_of, inputs_of, rtl_output, net_output}
-use Rattle.pe_tool.specs.RtlMeaning.{name_at}
-use Rattle.pe_tool.specs.declared.question.Plain.{Plain}
-use Rattle.pe_tool.specs.declared.question.Part.{Part}
-use Rattle.pe_tool.specs.declared.question.Part.TheVariants.{Rtl, Upf, Lib, Net, Map}
-use Rattle.pe_tool.specs.declared.question.Fault.{Fault}
-use Rattle.pe_tool.specs.declared.question.Fault.TheVariants.{NotBuilt, TooWide}
+use Rattle.pe_nets.specs.Nets.{name_at}
+use Rattle.pe_assigns.specs.Form.{input_names, output_names}
+use Rattle.pe_design.specs.declared.design.Design.{Design}
+use Rattle.pe_questions.specs.declared.question.Question.{Question}
+use Rattle.pe_questions.specs.declared.question.Point.{Point}
+use Rattle.pe_questions.specs.declared.question.Point.TheVariants.{Output, Live}
+use Rattle.pe_questions.specs.declared.answer.Answer.{Answer}
+use Rattle.pe_questions.specs.declared.answer.Answer.TheVariants.{Holds, Mismatch, Sample, Empty}
+use Rattle.pe_questions.specs.Assignments.{roots_of, inputs_of}
+use Rattle.pe_questions.specs.Answers.{mismatched}
 
 -- the end of a line
 abbrev pub line_end : List ℕ
 line_end = 10 ∷ []
 
--- how many questions have an assignment that refutes
-abbrev pub mismatched : Plain → ℕ
-mismatched p = count_by is_some p.answers
+abbrev pub is_held : Answer → Bool
+is_held Holds = true
+is_held _ = false
 
--- how many have none
-abbrev pub refuted : Plain → ℕ
-refuted p = length p.answers - mismatched p
+-- how many outputs refine in their rows
+abbrev pub held : List Answer → ℕ
+held answers = count_by is_held answers
 
-abbrev pub verdict_line : Plain → List ℕ
-verdict_line p = cond (mismatched p == 0) (codes "powereq: accepted") (codes "powereq: mismatch") ++ line_end
+abbrev pub verdict_line : List Answer → List ℕ
+verdict_line answers = cond (mismatched answers == 0) (codes "powereq: accepted") (codes "powereq: mismatch") ++ line_end
 
--- how many questions there are, and how many of each answer
+-- how many questions compare an output, and how many of them have each answer
 abbrev pub counts_of : ℕ → ℕ → ℕ → List ℕ
 counts_of total refuted mismatched =
     codes "obligations " ++ (decimal total ++ (codes " refuted " ++ (decimal refuted ++ (codes " mismatched "
     ++ (decimal mismatched ++ (codes " spent 0" ++ line_end))))))
 
-abbrev pub counts_line : Plain → List ℕ
-counts_line p = counts_of (length p.answers) (refuted p) (mismatched p)
+abbrev pub counts_line : List Answer → List ℕ
+counts_line answers = counts_of (held answers + mismatched answers) (held answers) (mismatched answers)
 
 -- a line: two texts with what stands between them and before them
 abbrev pub two_words : List ℕ → List ℕ → List ℕ → List ℕ → List ℕ
@@ -61,7 +59,7 @@ value_word Corrupt = codes "x"
 
 -- the names of the rows, in text order
 abbrev pub row_names : Design → List (List ℕ)
-row_names d = map (λ row. row.name) d.intent.rows
+row_names d = map (λ row. row.name) d.supplies.rows
 
 abbrev pub step_words : Design → Step → List ℕ
 step_words d (Start q) = codes "start " ++ name_at (row_names d) q
@@ -69,13 +67,23 @@ step_words d (Pair p q) = name_at (row_names d) p ++ codes " to " ++ name_at (ro
 
 -- the output that a point compares
 abbrev pub point_name : Design → Point → List ℕ
-point_name d (Output k) = name_at (output_names d.rtl.ports) k
+point_name d (Output k) = name_at (output_names d.rtl) k
+point_name d Live = []
+
+abbrev pub name_in : Option (List ℕ × ℕ) → List ℕ
+name_in None = []
+name_in (Some name) = name.0
+
+-- the first name of a supply
+abbrev pub first_name : List (List ℕ × ℕ) → ℕ → List ℕ
+first_name names supply = name_in (find (λ name. name.1 == supply) names)
 
 -- a line for each root, in UPF order
-abbrev pub supply_lines : List (List ℕ) → List Bool → List ℕ
-supply_lines [] bits = []
-supply_lines (name ∷ names) [] = []
-supply_lines (name ∷ names) (bit ∷ bits) = two_words (codes "    supply ") name (codes " ") (on_word bit) ++ supply_lines names bits
+abbrev pub supply_lines : List (List ℕ × ℕ) → List ℕ → List Bool → List ℕ
+supply_lines names [] bits = []
+supply_lines names (root ∷ roots) [] = []
+supply_lines names (root ∷ roots) (bit ∷ bits) =
+    two_words (codes "    supply ") (first_name names root) (codes " ") (on_word bit) ++ supply_lines names roots bits
 
 -- a line for each input, in port order
 abbrev pub input_lines : List (List ℕ) → List Bool → List ℕ
@@ -85,46 +93,35 @@ input_lines (name ∷ names) (bit ∷ bits) = two_words (codes "    in ") name (
 
 -- the roots and the inputs of a cycle
 abbrev pub sample : Design → List Bool → List ℕ
-sample d bits = codes "  cycle 1" ++ line_end ++ supply_lines d.intent.roots (roots_of d bits) ++ input_lines (input_names d.rtl.ports) (inputs_of d bits)
+sample d bits =
+    codes "  cycle 1" ++ line_end ++ supply_lines d.supplies.names d.supplies.roots (roots_of d bits)
+    ++ input_lines (input_names d.rtl) (inputs_of d bits)
 
--- the values of both sides
 abbrev pub values_line : Val → Val → List ℕ
 values_line rtl net = two_words (codes "  rtl ") (value_word rtl) (codes " net ") (value_word net)
 
--- the block of a question that an assignment refutes
-abbrev pub block : Design → Question → List Bool → List ℕ
-block d q bits =
-    two_words (codes "mismatch ") (step_words d q.step) (codes " output ") (point_name d q.point)
-    ++ sample d bits ++ values_line (rtl_output d bits (point_name d q.point)) (net_output d bits (point_name d q.point))
+-- the block of a mismatch, and nothing for another answer
+abbrev pub block : Design → Question → Answer → List ℕ
+block d q (Mismatch bits rtl net) =
+    two_words (codes "mismatch ") (step_words d q.step) (codes " output ") (point_name d q.point) ++ sample d bits ++ values_line rtl net
+block d q _ = []
 
-abbrev pub block_of : Design → Question → Option (List Bool) → List ℕ
-block_of d q None = []
-block_of d q (Some bits) = block d q bits
+-- the block of a step that is live or empty, and nothing for another answer
+abbrev pub step_block : Design → Question → Answer → List ℕ
+step_block d q (Sample bits) = two_words (codes "step ") (step_words d q.step) (codes " ") (codes "live") ++ sample d bits
+step_block d q Empty = two_words (codes "step ") (step_words d q.step) (codes " ") (codes "empty")
+step_block d q _ = []
 
--- a block for each question that an assignment refutes, in the order of the questions
-abbrev pub blocks : Design → List Question → List (Option (List Bool)) → List ℕ
-blocks d [] answers = []
-blocks d (q ∷ qs) [] = []
-blocks d (q ∷ qs) (a ∷ answers) = block_of d q a ++ blocks d qs answers
+-- what answers are told as, in the order of the questions
+abbrev pub blocks_by : (Question → Answer → List ℕ) → List Question → List Answer → List ℕ
+blocks_by told [] answers = []
+blocks_by told (q ∷ qs) [] = []
+blocks_by told (q ∷ qs) (a ∷ answers) = told q a ++ blocks_by told qs answers
 
--- the verdict, the counts and the blocks
-abbrev pub report : Design → Plain → List ℕ
-report d p = verdict_line p ++ counts_line p ++ blocks d p.questions p.answers
-
-abbrev pub part_word : Part → List ℕ
-part_word Rtl = codes "rtl"
-part_word Upf = codes "upf"
-part_word Lib = codes "lib"
-part_word Net = codes "net"
-part_word Map = codes "map"
-
-abbrev pub fault_words : Fault → List ℕ
-fault_words NotBuilt = codes "not built"
-fault_words (TooWide count) = codes "too wide " ++ decimal count
-
--- the line of a refusal: its part and its fault
-abbrev pub refusal : Part → Fault → List ℕ
-refusal part fault = codes "refused: " ++ part_word part ++ codes " " ++ fault_words fault ++ line_end
+-- the verdict, the counts, a block for each mismatch and one for each step
+abbrev pub report : Design → List Question → List Answer → List ℕ
+report d qs answers =
+    verdict_line answers ++ counts_line answers ++ blocks_by (block d) qs answers ++ blocks_by (step_block d) qs answers
 
 -- the line of a file that can't be read
 abbrev pub read_fault : List ℕ → List ℕ
@@ -133,6 +130,6 @@ read_fault name = codes "read fault: " ++ name ++ line_end
 abbrev pub usage : List ℕ
 usage = codes "usage: powereq check RTL UPF LIB NET MAP" ++ line_end
 
--- 0 where no question is refuted by an assignment, else 1
-abbrev pub report_status : Plain → ℕ
-report_status p = cond (mismatched p == 0) 0 1
+-- 0 where no answer is a mismatch, else 1
+abbrev pub report_status : List Answer → ℕ
+report_status answers = cond (mismatched answers == 0) 0 1

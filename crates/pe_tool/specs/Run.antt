@@ -1,27 +1,20 @@
 -- What the program answers to its words, over files and an output.
-use Rattle.std.specs.Prelude.{◌≡◌, ◌⊎◌, ℕ, ◌==◌, Bool, true, false, cond, not, ◌&&◌, List, [], ◌∷◌, map, length, codes, string_bytes, String, Option, Some, None, Err}
+use Rattle.std.specs.Prelude.{◌≡◌, ◌⊎◌, ℕ, ◌==◌, Bool, false, cond, not, ◌&&◌, List, [], ◌∷◌, map, codes, string_bytes, String, Option, Some, None, Err}
 use Rattle.std.specs.Global.{Global}
-use Rattle.std.specs.List.{list_all, Contains}
+use Rattle.std.specs.List.{list_all}
 use Rattle.std.specs.Str.{bytes_eq}
 use Rattle.pe_base.specs.declared.text.Texts.{Texts}
 use Rattle.pe_outside.specs.Outside.{HasRisen, grown, GrowsByPrefix}
-use Rattle.pe_tool.specs.declared.question.Plain.{Plain}
-use Rattle.pe_tool.specs.declared.question.Part.{Part}
-use Rattle.pe_tool.specs.declared.question.Fault.{Fault}
-use Rattle.pe_tool.specs.declared.question.CheckFault.TheVariants.{Refused}
-use Rattle.pe_base.specs.declared.value.Val.{Val}
-use Rattle.pe_base.specs.Values.{Refines}
-use Rattle.pe_verilog_plain.specs.Ports.{input_names, output_names}
-use Rattle.pe_verilog_plain.specs.Rtl.{rtl_nets}
-use Rattle.pe_verilog_plain.specs.Net.{net_nets}
-use Rattle.pe_tool.specs.declared.intent.Row.{Row}
-use Rattle.pe_tool.specs.declared.design.Design.{Design}
-use Rattle.pe_tool.specs.Rows.{row_holds, domain_on}
-use Rattle.pe_tool.specs.RtlMeaning.{IsRtlSettled, value_in}
-use Rattle.pe_tool.specs.NetMeaning.{IsNetSettled}
-use Rattle.pe_tool.specs.Equivalent.{IsDesign}
-use Rattle.pe_tool.specs.Outcome.{IsReported, IsOutcome}
-use Rattle.pe_tool.specs.Report.{report, report_status, refusal, read_fault, usage}
+use Rattle.pe_design.specs.declared.design.Design.{Design}
+use Rattle.pe_front.specs.declared.fault.Part.{Part}
+use Rattle.pe_front.specs.declared.fault.Fault.{Fault}
+use Rattle.pe_front.specs.declared.fault.CheckFault.TheVariants.{Refused}
+use Rattle.pe_front.specs.Given.{IsGiven}
+use Rattle.pe_questions.specs.declared.answer.Answer.{Answer}
+use Rattle.pe_questions.specs.Questions.{questions}
+use Rattle.pe_tool.specs.Equivalent.{IsReported}
+use Rattle.pe_tool.specs.Refusals.{refusal}
+use Rattle.pe_tool.specs.Report.{report, report_status, read_fault, usage}
 
 -- the names of the five files
 pub record FileNames : Type 0 where
@@ -58,20 +51,20 @@ pub record AreTold (told : List ℕ → Option (List ℕ)) (n : FileNames) (t : 
 
 -- what the program says
 pub data Saying : Type 0 where
-  reported : Design → Plain → Saying
+  reported : Design → List Answer → Saying
   refused : Part → Fault → Saying
   unread : List ℕ → Saying
   misused : Saying
 
 -- the bytes of a saying, and its status
 abbrev pub bytes_of : Saying → List ℕ
-bytes_of (reported d p) = report d p
+bytes_of (reported d answers) = report d (questions d) answers
 bytes_of (refused part fault) = refusal part fault
 bytes_of (unread name) = read_fault name
 bytes_of misused = usage
 
 abbrev pub status_of : Saying → ℕ
-status_of (reported d p) = report_status p
+status_of (reported d answers) = report_status answers
 status_of (refused part fault) = 3
 status_of (unread name) = 4
 status_of misused = 6
@@ -83,11 +76,11 @@ IsOneOf (other ∷ names) name = (other ≡ name) ⊎ IsOneOf names name
 
 -- Why a saying is said, of the words, of what is told of the files, and of their counts of faults before and after.
 abbrev pub IsCause : List (List ℕ) → (List ℕ → Option (List ℕ)) → (List ℕ → ℕ) → (List ℕ → ℕ) → Saying → Type 0
--- the words are of the rule, and where the files are told these are the design, questions and answers of their texts
-IsCause words told before after (reported d p) = (n : FileNames) × (names_of words ≡ Some n) × ((t : Texts) → AreTold told n t → IsReported t d p)
+-- the words are of the rule, and where the files are told these are the design of their texts and the answers to its questions
+IsCause words told before after (reported d answers) = (n : FileNames) × (names_of words ≡ Some n) × ((t : Texts) → AreTold told n t → IsReported t d answers)
 -- likewise, and the refusal is that of the texts
 IsCause words told before after (refused part fault) =
-    (n : FileNames) × (names_of words ≡ Some n) × ((t : Texts) → AreTold told n t → IsOutcome t (Err (Refused part fault)))
+    (n : FileNames) × (names_of words ≡ Some n) × ((t : Texts) → AreTold told n t → IsGiven t (Err (Refused part fault)))
 -- likewise, and the count of one of the files rose
 IsCause words told before after (unread name) =
     (n : FileNames) × (names_of words ≡ Some n) × IsOneOf (name_list n) name × HasRisen (before name) (after name)
@@ -104,23 +97,6 @@ pub record IsAnswered (saying : Saying) (status : ℕ) (before after : Option (L
 abbrev pub OfTexts : List (List ℕ) → (List ℕ → Option (List ℕ)) → (Texts → Type 0) → Type 0
 OfTexts words told P = (n : FileNames) × (names_of words ≡ Some n) × ((t : Texts) → AreTold told n t → P t)
 
--- An assignment refutes an output in a row: the row holds, and in settled maps the netlist's value does not refine the RTL's.
-pub record Replays (d : Design) (row : Row) (output : List ℕ) (roots inputs : List Bool) : Type 0 where
-  pub roots_long : length roots ≡ length d.intent.roots
-  pub inputs_long : length inputs ≡ length (input_names d.rtl.ports)
-  pub holds : row_holds d.intent row roots ≡ true
-  pub rtl_map : List Val
-  pub rtl_settled : IsRtlSettled d.rtl (domain_on d.intent roots) inputs rtl_map
-  pub net_map : List Val
-  pub net_settled : IsNetSettled d roots inputs net_map
-  pub not_refined : Refines (value_in (net_nets d.net) net_map output) (value_in (rtl_nets d.rtl) rtl_map output) → ⊥
-
--- the texts give a design with a mismatch that replays
-abbrev pub HasMismatch : Texts → Type 0
-HasMismatch t =
-    (d : Design) × (row : Row) × (output : List ℕ) × (roots : List Bool) × (inputs : List Bool)
-    × IsDesign t d × Contains d.intent.rows row × Contains (output_names d.rtl.ports) output × Replays d row output roots inputs
-
 -- the counts of none of these rose
 abbrev pub NoneRose : (List ℕ → ℕ) → (List ℕ → ℕ) → List (List ℕ) → Type 0
 NoneRose before after [] = Unit {0}
@@ -128,8 +104,8 @@ NoneRose before after (name ∷ names) = (HasRisen (before name) (after name) �
 
 -- what is said of the texts is right
 abbrev pub IsRight : Texts → Saying → Type 0
-IsRight t (reported d p) = IsReported t d p
-IsRight t (refused part fault) = IsOutcome t (Err (Refused part fault))
+IsRight t (reported d answers) = IsReported t d answers
+IsRight t (refused part fault) = IsGiven t (Err (Refused part fault))
 IsRight t (unread name) = ⊥
 IsRight t misused = ⊥
 
@@ -140,7 +116,7 @@ words_of words = map string_bytes words
 -- the texts are refused, and the line of that refusal was written
 abbrev pub IsRefusedRun : List (List ℕ) → (List ℕ → Option (List ℕ)) → Option (List ℕ) → Option (List ℕ) → Type 0
 IsRefusedRun words told before after =
-    (part : Part) × (fault : Fault) × OfTexts words told (λ t. IsOutcome t (Err (Refused part fault))) × (after ≡ grown before (refusal part fault))
+    (part : Part) × (fault : Fault) × OfTexts words told (λ t. IsGiven t (Err (Refused part fault))) × (after ≡ grown before (refusal part fault))
 
 -- the count of one of the files rose, and the line that names it was written
 abbrev pub IsUnreadRun : List (List ℕ) → (List ℕ → ℕ) → (List ℕ → ℕ) → Option (List ℕ) → Option (List ℕ) → Type 0

@@ -1,12 +1,13 @@
 //! The reading of the five files.
 
-ghost use Rattle.std.specs.Prelude.{◌≡◌, ◌≤◌, ◌<◌, ℕ, List, IfOk, IfErr, IfSome, Option, MatchResult};
+ghost use Rattle.std.specs.Prelude.{◌≡◌, ◌≤◌, ◌<◌, ℕ, List, IfOk, IfErr, IfSome, Option, MatchResult, length};
 ghost use Rattle.pe_base.specs.declared.text.Texts.{Texts};
 ghost use Rattle.pe_outside.specs.Outside.{HasRisen};
+ghost use Rattle.pe_text.specs.Scan.{most_bytes};
 ghost use Rattle.pe_tool.specs.Run.{FileNames, AreTold, name_list, IsOneOf};
 ghost use Rattle.pe_tool.specs.Reads.{StandsFor, StandFor, IsReadStop, names_view, IsStopped};
 
-use pe_base::Texts;
+use pe_base::{Texts, Want};
 use pe_outside::{Files, WholeFault, read_whole};
 use sqlite_items::Items;
 use std::alloc::{AllocError, AllocFailed, Global};
@@ -28,8 +29,19 @@ pub(crate) enum ReadStop<'a> {
     Failed(&'a str),
 }
 
-// The text of a file. A file over its limit does not end the reading: a text that no language has stands for it, so that
-// it is refused at its own point.
+// A text that is over the limit.
+fn over_limit(alloc: Global) -> Result<Items<u8>, Want>
+    ensures { IfOk result (λ text. most_bytes < length text) }
+{
+    let mut text = Items::new(alloc);
+    for _ in 0..16_777_217u32 {
+        text.push(b' ')?;
+    }
+    Ok(text)
+}
+
+// The text of a file. A file over the limit does not end the reading: a text that is over it too stands for it, so that it
+// is refused at its own point.
 fn read_text<'a, F: Files>(
     alloc: Global,
     files: &mut F,
@@ -44,7 +56,7 @@ fn read_text<'a, F: Files>(
         Ok(text) => Ok(text),
         Err(WholeFault::Memory) => Err(ReadStop::Memory),
         Err(WholeFault::Failed) => Err(ReadStop::Failed(name)),
-        Err(WholeFault::TooLong) => match Items::from_slice(alloc, b"\"") {
+        Err(WholeFault::TooLong) => match over_limit(alloc) {
             Ok(text) => Ok(text),
             Err(_) => Err(ReadStop::Memory),
         },

@@ -1,48 +1,43 @@
-//! What the program prints.
+//! What the program prints of a design and its answers.
 
-ghost use Rattle.std.specs.Prelude.{◌≡◌, ◌≤◌, ◌++◌, IfOk, OnOk, length, string_bytes, count_by, is_some};
-ghost use Rattle.pe_verilog_plain.specs.Ports.{input_names, output_names};
-ghost use Rattle.pe_tool.specs.RtlMeaning.{name_at};
-ghost use Rattle.pe_tool.specs.Report.{two_words, on_word, bit_word, value_word, row_names, step_words, point_name, supply_lines, input_lines, sample, values_line, block, block_of, blocks, line_end, mismatched, verdict_line, counts_of, counts_line, report, part_word, fault_words, refusal, read_fault, usage, report_status};
+ghost use Rattle.std.specs.Prelude.{◌≡◌, ◌≤◌, ◌+◌, ◌++◌, IfOk, OnOk, length, string_bytes};
+ghost use Rattle.pe_nets.specs.Nets.{name_at};
+ghost use Rattle.pe_assigns.specs.Form.{input_names, output_names};
+ghost use Rattle.pe_design.specs.declared.design.Design.{Design as Whole};
+ghost use Rattle.pe_questions.specs.Assignments.{roots_of, inputs_of};
+ghost use Rattle.pe_questions.specs.Answers.{mismatched as mismatched_of};
+ghost use Rattle.pe_tool.specs.Report.{is_held, held, two_words, on_word, bit_word, value_word, row_names, step_words, point_name, first_name, supply_lines, input_lines, sample, values_line, block, step_block, blocks_by, verdict_line, counts_of, counts_line, report, read_fault, usage, report_status};
 
-use crate::answer::{net_output, rtl_output, split};
-use crate::design::Design;
-use crate::question::{Fault, Part, Plain, Point, Question};
+use crate::refusals::add;
 use pe_base::{Name, Step, Val, Want};
-use pe_verilog_plain::{Direction, Port};
+use pe_design::Design;
+use pe_questions::{Answer, Point, Question, mismatched};
 use sqlite_items::Items;
 use std::alloc::Global;
 
-// How many questions have an assignment that refutes.
-fn mismatched(plain: &Plain) -> usize
-    ensures count { result ≡ mismatched plain.now }
-    ensures bounded { result ≤ length plain.now.answers }
+// Whether an output refines.
+fn is_held(answer: &Answer) -> bool
+    ensures { result ≡ is_held answer.now }
 {
-    plain
-        .answers
-        .as_slice()
-        .iter()
-        .filter(|answer| answer.is_some())
-        .count()
+    match answer {
+        Answer::Holds => true,
+        Answer::Mismatch { .. } | Answer::Sample { .. } | Answer::Empty => false,
+    }
 }
 
-// The status of a report.
-pub(crate) fn report_status(plain: &Plain) -> u8
-    ensures { result ≡ report_status plain.now }
+// How many outputs refine.
+fn held(answers: &[Answer]) -> usize
+    ensures count { result ≡ held answers.now }
+    ensures bounded { result ≤ length answers.now }
 {
-    if mismatched(plain) == 0 { 0 } else { 1 }
+    answers.iter().filter(|answer| is_held(answer)).count()
 }
 
-// The verdict.
-fn verdict_line(alloc: Global, plain: &Plain) -> Result<String, Want>
-    ensures { IfOk result (λ text. string_bytes text ≡ verdict_line plain.now) }
+/// The status of a report.
+pub(crate) fn report_status(answers: &[Answer]) -> u8
+    ensures { result ≡ report_status answers.now }
 {
-    let line = if mismatched(plain) == 0 {
-        format!(in alloc; "powereq: accepted\n")?
-    } else {
-        format!(in alloc; "powereq: mismatch\n")?
-    };
-    Ok(line)
+    if mismatched(answers) == 0 { 0 } else { 1 }
 }
 
 // The bytes of a text.
@@ -53,7 +48,19 @@ fn bytes_of(alloc: Global, text: String) -> Result<Items<u8>, Want>
     Ok(bytes)
 }
 
-// How many questions there are, and how many of each answer.
+// The verdict.
+fn verdict_line(alloc: Global, answers: &[Answer]) -> Result<String, Want>
+    ensures { IfOk result (λ text. string_bytes text ≡ verdict_line answers.now) }
+{
+    let line = if mismatched(answers) == 0 {
+        format!(in alloc; "powereq: accepted\n")?
+    } else {
+        format!(in alloc; "powereq: mismatch\n")?
+    };
+    Ok(line)
+}
+
+// How many questions compare an output, and how many of them have each answer.
 fn counts_text(
     alloc: Global,
     total: usize,
@@ -69,25 +76,18 @@ fn counts_text(
 }
 
 // The counts.
-fn counts_line(alloc: Global, plain: &Plain) -> Result<String, Want>
-    ensures { IfOk result (λ text. string_bytes text ≡ counts_line plain.now) }
+fn counts_line(alloc: Global, answers: &[Answer]) -> Result<String, Want>
+    ensures { IfOk result (λ text. string_bytes text ≡ counts_line answers.now) }
 {
-    let total = plain.answers.len();
-    let mismatched = mismatched(plain);
-    let line = counts_text(alloc, total, total - mismatched, mismatched)?;
-    Ok(line)
+    let held = held(answers);
+    let mismatched = mismatched(answers);
+    match held.checked_add(mismatched) {
+        Some(total) => counts_text(alloc, total, held, mismatched),
+        None => Err(Want),
+    }
 }
 
-// Adds bytes at the end.
-fn add(alloc: Global, out: &mut Items<u8>, bytes: &[u8]) -> Result<(), Want>
-    ensures { OnOk result (out.new ≡ out.old ++ bytes.now) }
-{
-    let more = Items::from_slice(alloc, bytes)?;
-    out.append(more)?;
-    Ok(())
-}
-
-// Adds a line: two texts with what stands between them and behind them.
+// Adds a line: two texts with what stands between them and before them.
 fn add_line(
     alloc: Global,
     out: &mut Items<u8>,
@@ -128,28 +128,35 @@ fn value_word(value: Val) -> &'static [u8]
     }
 }
 
+// The first name of a supply.
+fn first_name(names: &[(Name, u32)], supply: u32) -> &[u8]
+    ensures { result.now ≡ first_name names.now supply }
+{
+    for name in names {
+        if name.1 == supply {
+            return name.0.bytes();
+        }
+    }
+    b""
+}
+
 // Adds a line for each root.
 fn add_supplies(
     alloc: Global,
     out: &mut Items<u8>,
-    names: &[Name],
+    names: &[(Name, u32)],
+    roots: &[u32],
     bits: &[bool],
 ) -> Result<(), Want>
-    ensures { OnOk result (out.new ≡ out.old ++ supply_lines names.now bits.now) }
+    ensures { OnOk result (out.new ≡ out.old ++ supply_lines names.now roots.now bits.now) }
 {
     let mut rest = bits;
-    for name in names {
+    for root in roots {
         match rest.split_first() {
             None => return Ok(()),
             Some((bit, more)) => {
-                add_line(
-                    alloc,
-                    out,
-                    b"    supply ",
-                    name.bytes(),
-                    b" ",
-                    on_word(*bit),
-                )?;
+                let name = first_name(names, *root);
+                add_line(alloc, out, b"    supply ", name, b" ", on_word(*bit))?;
                 rest = more;
             }
         }
@@ -158,66 +165,39 @@ fn add_supplies(
 }
 
 // Adds a line for each input.
-fn add_inputs(alloc: Global, out: &mut Items<u8>, ports: &[Port], bits: &[bool]) -> Result<(), Want>
-    ensures { OnOk result (out.new ≡ out.old ++ input_lines (input_names ports.now) bits.now) }
+fn add_inputs(alloc: Global, out: &mut Items<u8>, names: &[Name], bits: &[bool]) -> Result<(), Want>
+    ensures { OnOk result (out.new ≡ out.old ++ input_lines names.now bits.now) }
 {
     let mut rest = bits;
-    for port in ports {
-        match port.direction {
-            Direction::Output => {}
-            Direction::Input => match rest.split_first() {
-                None => return Ok(()),
-                Some((bit, more)) => {
-                    add_line(
-                        alloc,
-                        out,
-                        b"    in ",
-                        port.name.bytes(),
-                        b" ",
-                        bit_word(*bit),
-                    )?;
-                    rest = more;
-                }
-            },
+    for name in names {
+        match rest.split_first() {
+            None => return Ok(()),
+            Some((bit, more)) => {
+                add_line(alloc, out, b"    in ", name.bytes(), b" ", bit_word(*bit))?;
+                rest = more;
+            }
         }
     }
     Ok(())
 }
+
 // The name of the row of this number.
 fn row_name(d: &Design, number: u32) -> &[u8]
     ensures { result.now ≡ name_at (row_names d.now) number }
 {
-    match d.intent.rows.as_slice().get(number as usize) {
+    match d.supplies.rows.as_slice().get(number as usize) {
         Some(row) => row.name.bytes(),
         None => b"",
     }
 }
 
-// The name of the output of this number.
-fn output_name(ports: &[Port], number: u32) -> &[u8]
-    ensures { result.now ≡ name_at (output_names ports.now) number }
+// The name at a place.
+fn name_at(names: &[Name], number: u32) -> &[u8]
+    ensures { result.now ≡ name_at names.now number }
 {
-    let mut left = number;
-    for port in ports {
-        match port.direction {
-            Direction::Input => {}
-            Direction::Output => {
-                if left == 0 {
-                    return port.name.bytes();
-                }
-                left -= 1;
-            }
-        }
-    }
-    b""
-}
-
-// The output that a point compares.
-fn point_name(d: &Design, point: Point) -> &[u8]
-    ensures { result.now ≡ point_name d.now point }
-{
-    match point {
-        Point::Output(number) => output_name(d.rtl.ports.as_slice(), number),
+    match names.get(number as usize) {
+        Some(name) => name.bytes(),
+        None => b"",
     }
 }
 
@@ -240,76 +220,135 @@ fn step_words(alloc: Global, d: &Design, step: Step) -> Result<Items<u8>, Want>
     Ok(out)
 }
 
+// The output that a point compares.
+fn point_name<'a>(outputs: &'a [Name], point: Point) -> &'a [u8]
+    ensures { (d : Whole) → outputs.now ≡ output_names d.rtl → result.now ≡ point_name d point }
+{
+    match point {
+        Point::Output(number) => name_at(outputs, number),
+        Point::Live => b"",
+    }
+}
+
+// The roots' part of an assignment, and the inputs'.
+fn split<'a>(d: &Design, bits: &'a [bool]) -> (&'a [bool], &'a [bool])
+    ensures roots { result.0.now ≡ roots_of d.now bits.now }
+    ensures inputs { result.1.now ≡ inputs_of d.now bits.now }
+{
+    bits.split_at(d.supplies.roots.len().min(bits.len()))
+}
+
 // Adds the roots and the inputs of a cycle.
-fn add_sample(alloc: Global, out: &mut Items<u8>, d: &Design, bits: &[bool]) -> Result<(), Want>
+fn add_sample(
+    alloc: Global,
+    out: &mut Items<u8>,
+    d: &Design,
+    inputs: &[Name],
+    bits: &[bool],
+) -> Result<(), Want>
+    requires { inputs.now ≡ input_names d.now.rtl }
     ensures { OnOk result (out.new ≡ out.old ++ sample d.now bits.now) }
 {
-    let (roots, inputs) = split(d, bits);
+    let (states, values) = split(d, bits);
     add(alloc, out, b"  cycle 1\n")?;
-    add_supplies(alloc, out, d.intent.roots.as_slice(), roots)?;
-    add_inputs(alloc, out, d.rtl.ports.as_slice(), inputs)?;
+    add_supplies(
+        alloc,
+        out,
+        d.supplies.names.as_slice(),
+        d.supplies.roots.as_slice(),
+        states,
+    )?;
+    add_inputs(alloc, out, inputs, values)?;
     Ok(())
 }
 
-// Adds the block of a question that an assignment refutes. The values of both sides are evaluated again.
+// The names of the RTL's ports.
+#[derive(Drop)]
+struct PortNames {
+    inputs: Items<Name>,
+    outputs: Items<Name>,
+}
+
+// Adds the block of a mismatch, and nothing for another answer.
 fn add_block(
     alloc: Global,
     out: &mut Items<u8>,
     d: &Design,
+    names: &PortNames,
     question: Question,
-    bits: &[bool],
+    answer: &Answer,
 ) -> Result<(), Want>
-    ensures { OnOk result (out.new ≡ out.old ++ block d.now question bits.now) }
-{
-    let name = point_name(d, question.point);
-    let rtl = rtl_output(d, bits, name);
-    let net = net_output(alloc, d, bits, name)?;
-    let step = step_words(alloc, d, question.step)?;
-    add_line(alloc, out, b"mismatch ", step.as_slice(), b" output ", name)?;
-    add_sample(alloc, out, d, bits)?;
-    add_line(
-        alloc,
-        out,
-        b"  rtl ",
-        value_word(rtl),
-        b" net ",
-        value_word(net),
-    )?;
-    Ok(())
-}
-
-// Adds the block of a question, if an assignment refutes it.
-fn add_answer(
-    alloc: Global,
-    out: &mut Items<u8>,
-    d: &Design,
-    question: Question,
-    answer: &Option<Items<bool>>,
-) -> Result<(), Want>
-    ensures { OnOk result (out.new ≡ out.old ++ block_of d.now question answer.now) }
+    requires inputs { names.now.inputs ≡ input_names d.now.rtl }
+    requires outputs { names.now.outputs ≡ output_names d.now.rtl }
+    ensures { OnOk result (out.new ≡ out.old ++ block d.now question answer.now) }
 {
     match answer {
-        None => Ok(()),
-        Some(bits) => add_block(alloc, out, d, question, bits.as_slice()),
+        Answer::Mismatch { bits, rtl, net } => {
+            let name = point_name(names.outputs.as_slice(), question.point);
+            let step = step_words(alloc, d, question.step)?;
+            add_line(alloc, out, b"mismatch ", step.as_slice(), b" output ", name)?;
+            add_sample(alloc, out, d, names.inputs.as_slice(), bits.as_slice())?;
+            add_line(
+                alloc,
+                out,
+                b"  rtl ",
+                value_word(*rtl),
+                b" net ",
+                value_word(*net),
+            )?;
+            Ok(())
+        }
+        Answer::Holds | Answer::Sample { .. } | Answer::Empty => Ok(()),
     }
 }
 
-// Adds a block for each question that an assignment refutes.
+// Adds the block of a step that is live or empty, and nothing for another answer.
+fn add_step(
+    alloc: Global,
+    out: &mut Items<u8>,
+    d: &Design,
+    names: &PortNames,
+    question: Question,
+    answer: &Answer,
+) -> Result<(), Want>
+    requires inputs { names.now.inputs ≡ input_names d.now.rtl }
+    ensures { OnOk result (out.new ≡ out.old ++ step_block d.now question answer.now) }
+{
+    match answer {
+        Answer::Sample { bits } => {
+            let step = step_words(alloc, d, question.step)?;
+            add_line(alloc, out, b"step ", step.as_slice(), b" ", b"live")?;
+            add_sample(alloc, out, d, names.inputs.as_slice(), bits.as_slice())?;
+            Ok(())
+        }
+        Answer::Empty => {
+            let step = step_words(alloc, d, question.step)?;
+            add_line(alloc, out, b"step ", step.as_slice(), b" ", b"empty")?;
+            Ok(())
+        }
+        Answer::Holds | Answer::Mismatch { .. } => Ok(()),
+    }
+}
+
+// Adds a block for each mismatch.
 fn add_blocks(
     alloc: Global,
     out: &mut Items<u8>,
     d: &Design,
+    names: &PortNames,
     questions: &[Question],
-    answers: &[Option<Items<bool>>],
+    answers: &[Answer],
 ) -> Result<(), Want>
-    ensures { OnOk result (out.new ≡ out.old ++ blocks d.now questions.now answers.now) }
+    requires inputs { names.now.inputs ≡ input_names d.now.rtl }
+    requires outputs { names.now.outputs ≡ output_names d.now.rtl }
+    ensures { OnOk result (out.new ≡ out.old ++ blocks_by (block d.now) questions.now answers.now) }
 {
     let mut rest = answers;
     for question in questions {
         match rest.split_first() {
             None => return Ok(()),
             Some((answer, more)) => {
-                add_answer(alloc, out, d, *question, answer)?;
+                add_block(alloc, out, d, names, *question, answer)?;
                 rest = more;
             }
         }
@@ -317,48 +356,52 @@ fn add_blocks(
     Ok(())
 }
 
-/// The report: the verdict, the counts, and a block for each mismatch.
-pub(crate) fn report(alloc: Global, d: &Design, plain: &Plain) -> Result<Items<u8>, Want>
-    ensures { IfOk result (λ bytes. bytes ≡ report d.now plain.now) }
+// Adds a block for each step.
+fn add_steps(
+    alloc: Global,
+    out: &mut Items<u8>,
+    d: &Design,
+    names: &PortNames,
+    questions: &[Question],
+    answers: &[Answer],
+) -> Result<(), Want>
+    requires inputs { names.now.inputs ≡ input_names d.now.rtl }
+    ensures { OnOk result (out.new ≡ out.old ++ blocks_by (step_block d.now) questions.now answers.now) }
 {
-    let verdict = verdict_line(alloc, plain)?;
-    let counts = counts_line(alloc, plain)?;
+    let mut rest = answers;
+    for question in questions {
+        match rest.split_first() {
+            None => return Ok(()),
+            Some((answer, more)) => {
+                add_step(alloc, out, d, names, *question, answer)?;
+                rest = more;
+            }
+        }
+    }
+    Ok(())
+}
+
+/// The report: the verdict, the counts, a block for each mismatch and one for each step.
+pub(crate) fn report(
+    alloc: Global,
+    d: &Design,
+    questions: &[Question],
+    answers: &[Answer],
+) -> Result<Items<u8>, Want>
+    ensures { IfOk result (λ bytes. bytes ≡ report d.now questions.now answers.now) }
+{
+    let names = PortNames {
+        inputs: pe_assigns::input_names(alloc, &d.rtl)?,
+        outputs: pe_assigns::output_names(alloc, &d.rtl)?,
+    };
+    let verdict = verdict_line(alloc, answers)?;
+    let counts = counts_line(alloc, answers)?;
     let mut out = Items::new(alloc);
     add(alloc, &mut out, verdict.as_str().as_bytes())?;
     add(alloc, &mut out, counts.as_str().as_bytes())?;
-    add_blocks(
-        alloc,
-        &mut out,
-        d,
-        plain.questions.as_slice(),
-        plain.answers.as_slice(),
-    )?;
+    add_blocks(alloc, &mut out, d, &names, questions, answers)?;
+    add_steps(alloc, &mut out, d, &names, questions, answers)?;
     Ok(out)
-}
-
-// The name of a part.
-fn part_word(part: Part) -> &'static str
-    ensures { result.now ≡ part_word part }
-{
-    match part {
-        Part::Rtl => "rtl",
-        Part::Upf => "upf",
-        Part::Lib => "lib",
-        Part::Net => "net",
-        Part::Map => "map",
-    }
-}
-
-/// The line of a refusal: its part and its fault.
-pub(crate) fn refusal(alloc: Global, part: Part, fault: Fault) -> Result<Items<u8>, Want>
-    ensures { IfOk result (λ bytes. bytes ≡ refusal part fault) }
-{
-    let word = part_word(part);
-    let line = match fault {
-        Fault::NotBuilt => format!(in alloc; "refused: {word} not built\n")?,
-        Fault::TooWide { count } => format!(in alloc; "refused: {word} too wide {count}\n")?,
-    };
-    bytes_of(alloc, line)
 }
 
 /// The line of a file that can't be read.

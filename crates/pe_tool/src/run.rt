@@ -1,22 +1,26 @@
 //! The top call: words in, status out, over files and an output.
 
-ghost use Rattle.std.specs.Prelude.{◌≡◌, ◌≢◌, ◌⊎◌, ◌<◌, ◌≤◌, ℕ, List, map, IfOk, Option, Some, None, Result, Err, string_bytes};
+ghost use Rattle.std.specs.Prelude.{◌≡◌, ◌≢◌, ◌⊎◌, ℕ, List, map, IfOk, Option, Some, None, string_bytes};
 ghost use Rattle.pe_base.specs.declared.text.Texts.{Texts};
 ghost use Rattle.pe_outside.specs.Outside.{HasRisen, grown, GrowsByPrefix};
-ghost use Rattle.pe_tool.specs.declared.design.Design.{Design};
-ghost use Rattle.pe_tool.specs.Equivalent.{IsDesign, Refined, IsEquivalent};
-ghost use Rattle.pe_tool.specs.Outcome.{input_count};
+ghost use Rattle.pe_design.specs.declared.design.Design.{Design as Whole};
+ghost use Rattle.pe_design.specs.Refined.{Refined};
+ghost use Rattle.pe_design.specs.Sound.{IsSound};
+ghost use Rattle.pe_front.specs.Given.{IsDesign, IsNarrow};
+ghost use Rattle.pe_tool.specs.Equivalent.{IsEquivalent, HasMismatch};
 ghost use Rattle.pe_tool.specs.Report.{usage};
-ghost use Rattle.pe_tool.specs.Run.{FileNames, AreTold, NoneRose, OfTexts, HasMismatch, IsRefusedRun, IsUnreadRun, IsSaidRun, IsJudgedRun, words_of, names_of, name_list};
+ghost use Rattle.pe_tool.specs.Run.{FileNames, AreTold, NoneRose, OfTexts, IsRefusedRun, IsUnreadRun, IsSaidRun, IsJudgedRun, words_of, names_of, name_list};
 ghost use Rattle.pe_tool.specs.Said.{Says, IsJudged, IsSaid};
 
-use crate::check::{check_design, one_design};
-use crate::question::CheckFault;
 use crate::read::{ReadStop, read_texts};
-use crate::report::{read_fault, refusal, report, report_status, usage};
+use crate::refusals::refusal;
+use crate::report::{read_fault, report, report_status, usage};
 use crate::words::names_of;
 use pe_base::{Texts, Want};
+use pe_design::Design;
+use pe_front::{CheckFault, design, one_design};
 use pe_outside::{Files, Sink, write_all};
+use pe_questions::{answers, questions};
 use sqlite_items::Items;
 use std::alloc::Global;
 
@@ -27,18 +31,28 @@ pub(crate) struct Said {
     pub bytes: Items<u8>,
 }
 
+// What is said of a design that the texts give.
+fn judge_design(alloc: Global, texts: &Texts, d: &Design) -> Result<Said, Want>
+    requires given { IsDesign texts.now d.now }
+    requires sound { IsSound d.now }
+    requires narrow { IsNarrow d.now }
+    ensures { IfOk result (IsJudged texts.now) }
+{
+    let questions = questions(alloc, d)?;
+    let answers = answers(alloc, d, questions.as_slice())?;
+    let bytes = report(alloc, d, questions.as_slice(), answers.as_slice())?;
+    let status = report_status(answers.as_slice());
+    Ok(Said { status, bytes })
+}
+
 // What is said of five texts.
 fn judge(alloc: Global, texts: &Texts) -> Result<Said, Want>
     ensures { IfOk result (IsJudged texts.now) }
 {
-    match check_design(alloc, texts) {
-        Ok(checked) => {
-            let bytes = report(alloc, &checked.design, &checked.plain)?;
-            let status = report_status(&checked.plain);
-            Ok(Said { status, bytes })
-        }
+    match design(alloc, texts) {
+        Ok(d) => judge_design(alloc, texts, &d),
         Err(CheckFault::Refused(part, fault)) => {
-            let bytes = refusal(alloc, part, fault)?;
+            let bytes = refusal(alloc, part, &fault)?;
             Ok(Said { status: 3, bytes })
         }
         Err(CheckFault::Memory) => Err(Want),
@@ -101,10 +115,10 @@ pub fn run_alone<F: Files, S: Sink>(
     ensures judged { (n : FileNames) (t : Texts) → names_of (words_of words.now) ≡ Some n → AreTold (F.told files.old) n t →
         NoneRose (F.faults files.old) (F.faults files.new) (name_list n) → (HasRisen (S.faults out.old) (S.faults out.new) → ⊥) →
         (result ≡ 7) ⊎ IsJudgedRun t result (S.written out.old) (S.written out.new) }
-    // And where they give a design that is not too wide, its netlist is equivalent at 0, and a mismatch replays at 1.
-    ensures complete { (n : FileNames) (t : Texts) (d : Design) → names_of (words_of words.now) ≡ Some n → AreTold (F.told files.old) n t →
+    // And where they give a design, its netlist is equivalent at 0, and a mismatch replays at 1.
+    ensures complete { (n : FileNames) (t : Texts) (d : Whole) → names_of (words_of words.now) ≡ Some n → AreTold (F.told files.old) n t →
         NoneRose (F.faults files.old) (F.faults files.new) (name_list n) → (HasRisen (S.faults out.old) (S.faults out.new) → ⊥) →
-        IsDesign t d → input_count d ≤ 8 → (result ≡ 7) ⊎ ((result ≡ 0) × Refined d) ⊎ ((result ≡ 1) × HasMismatch t) }
+        IsDesign t d → (result ≡ 7) ⊎ ((result ≡ 0) × Refined d) ⊎ ((result ≡ 1) × HasMismatch t) }
 {
     one_design();
     match say(alloc, words, files) {

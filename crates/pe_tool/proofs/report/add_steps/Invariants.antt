@@ -1,0 +1,6 @@
+use Rattle.std.proofs.Common.{◌≡◌, ◌++◌, drop}
+use Rattle.pe_tool.specs.Report.{step_block, blocks_by}
+use Rattle.pe_tool.proofs.report.add_steps.Given as goal
+
+abbrev pub invariant-loop-question : goal.invariant-loop-question
+invariant-loop-question l = l.out ++ blocks_by (step_block l.d) (drop l.question-index l.questions) l.rest ≡ l.fn.out ++ blocks_by (step_block l.d) l.questions l.answers
