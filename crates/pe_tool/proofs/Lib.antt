@@ -1,3 +1,4 @@
 pub mod Sayings
+pub mod Outcomes
 pub mod Reports
 pub mod Standing

@@ -1,4 +1,5 @@
 pub mod Equivalent
+pub mod Outcome
 pub mod Reads
 pub mod Refusals
 pub mod Report

@@ -5,22 +5,20 @@ ghost use Rattle.pe_base.specs.declared.text.Texts.{Texts};
 ghost use Rattle.pe_outside.specs.Outside.{HasRisen, grown, GrowsByPrefix};
 ghost use Rattle.pe_design.specs.declared.design.Design.{Design as Whole};
 ghost use Rattle.pe_design.specs.Refined.{Refined};
-ghost use Rattle.pe_design.specs.Sound.{IsSound};
-ghost use Rattle.pe_front.specs.Given.{IsDesign, IsNarrow};
+ghost use Rattle.pe_front.specs.Given.{IsDesign};
 ghost use Rattle.pe_tool.specs.Equivalent.{IsEquivalent, HasMismatch};
 ghost use Rattle.pe_tool.specs.Report.{usage};
 ghost use Rattle.pe_tool.specs.Run.{FileNames, AreTold, NoneRose, OfTexts, IsRefusedRun, IsUnreadRun, IsSaidRun, IsJudgedRun, words_of, names_of, name_list};
 ghost use Rattle.pe_tool.specs.Said.{Says, IsJudged, IsSaid};
 
+use crate::check::check_design;
 use crate::read::{ReadStop, read_texts};
 use crate::refusals::refusal;
 use crate::report::{read_fault, report, report_status, usage};
 use crate::words::names_of;
 use pe_base::{Texts, Want};
-use pe_design::Design;
-use pe_front::{CheckFault, design, one_design};
+use pe_front::{CheckFault, one_design};
 use pe_outside::{Files, Sink, write_all};
-use pe_questions::{answers, questions};
 use sqlite_items::Items;
 use std::alloc::Global;
 
@@ -31,26 +29,18 @@ pub(crate) struct Said {
     pub bytes: Items<u8>,
 }
 
-// What is said of a design that the texts give.
-fn judge_design(alloc: Global, texts: &Texts, d: &Design) -> Result<Said, Want>
-    requires given { IsDesign texts.now d.now }
-    requires sound { IsSound d.now }
-    requires narrow { IsNarrow d.now }
-    ensures { IfOk result (IsJudged texts.now) }
-{
-    let questions = questions(alloc, d)?;
-    let answers = answers(alloc, d, questions.as_slice())?;
-    let bytes = report(alloc, d, questions.as_slice(), answers.as_slice())?;
-    let status = report_status(answers.as_slice());
-    Ok(Said { status, bytes })
-}
-
 // What is said of five texts.
 fn judge(alloc: Global, texts: &Texts) -> Result<Said, Want>
     ensures { IfOk result (IsJudged texts.now) }
 {
-    match design(alloc, texts) {
-        Ok(d) => judge_design(alloc, texts, &d),
+    match check_design(alloc, texts) {
+        Ok(checked) => {
+            let questions = checked.plain.questions.as_slice();
+            let answers = checked.plain.answers.as_slice();
+            let bytes = report(alloc, &checked.design, questions, answers)?;
+            let status = report_status(answers);
+            Ok(Said { status, bytes })
+        }
         Err(CheckFault::Refused(part, fault)) => {
             let bytes = refusal(alloc, part, &fault)?;
             Ok(Said { status: 3, bytes })

@@ -1,6 +1,9 @@
 //! Refusals, and which of them comes first.
 
-use crate::running::{AND, FILES, LIB, RTL, UPF, WORDS, run_on};
+use crate::running::{AND, FILES, LIB, OR, RTL, UPF, WORDS, run_on};
+use pe_base::Texts;
+use pe_tool::check_alone;
+use sqlite_items::Items;
 use std::test::Fail;
 
 const WIDE: &str =
@@ -158,6 +161,26 @@ fn refuses_cells_and_supplies(rt: HostRuntime) -> Result<(), Fail> {
         let (status, out) = run_on(rt.alloc(), &WORDS, texts, &[])?;
         assert_eq!(rt; status, 3, "at {i}");
         assert_eq!(rt; out.written(), line.as_bytes(), "at {i}");
+    }
+    Ok(())
+}
+
+#[test]
+fn finds_the_first_assignment(rt: HostRuntime) -> Result<(), Fail> {
+    let alloc = rt.alloc();
+    let texts = Texts {
+        rtl: Items::from_slice(alloc, RTL.as_bytes())?,
+        upf: Items::from_slice(alloc, UPF.as_bytes())?,
+        lib: Items::from_slice(alloc, LIB.as_bytes())?,
+        net: Items::from_slice(alloc, OR.as_bytes())?,
+        map: Items::new(alloc),
+    };
+    match check_alone(alloc, &texts) {
+        Ok(plain) => {
+            assert_eq!(rt; plain.questions.len(), 2);
+            assert_eq!(rt; plain.answers.len(), 2);
+        }
+        Err(_) => return Err(Fail::from("refused")),
     }
     Ok(())
 }
