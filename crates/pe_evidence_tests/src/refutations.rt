@@ -27,6 +27,19 @@ fn empty_clause(alloc: Global, hints: &[u64]) -> Result<Evidence, Want>
     Ok(Evidence::Chain(chain))
 }
 
+// Whether the chain of the empty clause with these hints is good over the clauses.
+fn is_good(alloc: Global, set: &Clauses, hints: &[u64]) -> Result<bool, Want> {
+    let evidence = empty_clause(alloc, hints)?;
+    let mut scratch = Scratch::new(alloc, set.vars())?;
+    Ok(check(set, &evidence, &mut scratch))
+}
+
+// Whether a table is, which is asked of a goal's cone alone.
+fn is_table_good(alloc: Global, set: &Clauses) -> Result<bool, Want> {
+    let mut scratch = Scratch::new(alloc, set.vars())?;
+    Ok(check(set, &Evidence::Table, &mut scratch))
+}
+
 // The first fault of a table for the sum of so many leaves, in two orders, or with its last leaf left out of one.
 fn table(rt: &impl Abort, alloc: Global, leaves: u32, whole: bool) -> Result<Option<u64>, Want> {
     let mut graph = Graph::new(alloc)?;
@@ -87,7 +100,6 @@ fn two_units_that_differ(rt: HostRuntime) -> Result<(), Fail> {
         Items::from_slice(alloc, &[l.complement()])?,
     ];
     let set = Clauses::from_lists(alloc, &lists)?;
-    let mut scratch = Scratch::new(alloc, set.vars())?;
     let cases: [(&[u64], bool); 6] = [
         (&[0, 1], true),
         (&[1, 0], true),
@@ -97,10 +109,9 @@ fn two_units_that_differ(rt: HostRuntime) -> Result<(), Fail> {
         (&[0, 2], false),
     ];
     for (hints, good) in cases {
-        let evidence = empty_clause(alloc, hints)?;
-        assert_eq!(rt; check(&set, &evidence, &mut scratch), good);
+        assert_eq!(rt; is_good(alloc, &set, hints)?, good);
     }
-    assert!(rt; !check(&set, &Evidence::Table, &mut scratch));
+    assert!(rt; !is_table_good(alloc, &set)?);
     Ok(())
 }
 
