@@ -11,26 +11,26 @@ use std::process::Abort;
 use std::test::Fail;
 
 // `a & b`, of literals of the graph.
-fn both(rt: &impl Abort, graph: &mut Graph, a: Lit, b: Lit) -> Result<Lit, Want> {
+pub fn both(rt: &impl Abort, graph: &mut Graph, a: Lit, b: Lit) -> Result<Lit, Want> {
     assert!(rt; a.var() < graph.nodes());
     assert!(rt; b.var() < graph.nodes());
     graph.and(a, b)
 }
 
 // The literal that is 1 where one of the two is.
-fn either(rt: &impl Abort, graph: &mut Graph, a: Lit, b: Lit) -> Result<Lit, Want> {
+pub fn either(rt: &impl Abort, graph: &mut Graph, a: Lit, b: Lit) -> Result<Lit, Want> {
     Ok(both(rt, graph, a.complement(), b.complement())?.complement())
 }
 
 // The literal that is 1 where one of the two is, but not both.
-fn one_of(rt: &impl Abort, graph: &mut Graph, a: Lit, b: Lit) -> Result<Lit, Want> {
+pub fn one_of(rt: &impl Abort, graph: &mut Graph, a: Lit, b: Lit) -> Result<Lit, Want> {
     let all = both(rt, graph, a, b)?;
     let none = both(rt, graph, a.complement(), b.complement())?;
     both(rt, graph, all.complement(), none.complement())
 }
 
 // Whether an odd number of these leaves is 1, joined in this order.
-fn parity(rt: &impl Abort, graph: &mut Graph, count: u32, step: u32) -> Result<Lit, Want> {
+pub fn parity(rt: &impl Abort, graph: &mut Graph, count: u32, step: u32) -> Result<Lit, Want> {
     let mut sum = Lit::truth(false);
     for k in 0..count {
         let leaf = graph.leaf(k.wrapping_mul(step) % count.max(1))?;
@@ -41,7 +41,7 @@ fn parity(rt: &impl Abort, graph: &mut Graph, count: u32, step: u32) -> Result<L
 
 // The carry of the sum of two words: leaves 2 k and 2 k + 1 are their bits k. Either carry is made, from two of the three,
 // or from the sum of two; `wrong` leaves out a bit's carry.
-fn carry(
+pub fn carry(
     rt: &impl Abort,
     graph: &mut Graph,
     bits: u32,
@@ -69,7 +69,7 @@ fn carry(
 }
 
 // Whether the first of two words is below the second: by the borrow, or by the highest bit in which they differ.
-fn below(
+pub fn below(
     rt: &impl Abort,
     graph: &mut Graph,
     bits: u32,
@@ -97,7 +97,7 @@ fn below(
 }
 
 // The job of a graph whose leaves are so many inputs.
-fn job_of(rt: &impl Abort, alloc: Global, graph: Graph, count: u32) -> Result<Job, Want> {
+pub fn job_of(rt: &impl Abort, alloc: Global, graph: Graph, count: u32) -> Result<Job, Want> {
     let mut leaves = Items::new(alloc);
     for input in 0..count {
         leaves.push(Leaf::Input { cycle: 1, input })?;
@@ -130,7 +130,7 @@ fn value(
 }
 
 // What is decided of the clauses of a goal over so many leaves.
-fn decided(
+pub fn decided(
     rt: &impl Abort,
     alloc: Global,
     set: &Clauses,
@@ -145,7 +145,7 @@ fn decided(
 }
 
 // What is decided of two literals of a graph. A sample is looked at once more.
-fn verdict(
+pub fn verdict(
     rt: &impl Abort,
     alloc: Global,
     graph: Graph,
