@@ -1,7 +1,7 @@
 -- Gate netlists of one module: which trees are such, and what they have.
 use Rattle.std.specs.Prelude.{ℕ, Bool, true, false, cond, not, ◌&&◌, Option, Some, None, is_some, is_none, List, [], ◌∷◌, ◌++◌, map}
 use Rattle.std.specs.List.{list_all, flat_map}
-use Rattle.pe_base.specs.Names.{has_name, are_distinct}
+use Rattle.pe_base.specs.Names.{has_name, are_distinct, all_among}
 use Rattle.pe_verilog_ast.specs.declared.expression.Ex.{Ex, Ex-F, fold-Ex}
 use Rattle.pe_verilog_ast.specs.declared.expression.Ex.TheOpen as layer
 use Rattle.pe_verilog_ast.specs.declared.expression.Operand.{Operand-F}
@@ -16,6 +16,7 @@ use Rattle.pe_assigns.specs.Form.{is_plain_port, input_names, output_names, wire
 use Rattle.pe_instances.specs.declared.parts.Connection.{Connection}
 use Rattle.pe_instances.specs.declared.parts.Instance.{Instance}
 use Rattle.pe_instances.specs.declared.parts.Netlist.{Netlist}
+use Rattle.pe_instances.specs.Pins.{net_list}
 
 -- the whole net is meant
 abbrev pub whole_layer : Select-F (Option (List ℕ)) Bool (Unit {0}) → Bool
@@ -111,15 +112,24 @@ is_named names i = are_distinct (pins i) && list_all (λ c. is_declared names c.
 abbrev pub are_named_all : Netlist → Bool
 are_named_all n = are_distinct (nets n) && list_all (is_named (nets n)) n.instances
 
+-- the nets that the pins of an instance are on
+abbrev pub nets_on : Instance → List (List ℕ)
+nets_on i = flat_map (λ c. net_list c.net) i.connections
+
+-- each output and wire has a pin on it: without one nothing drives it, whatever the cells are
+abbrev pub are_connected : Netlist → Bool
+are_connected n = all_among (flat_map nets_on n.instances) (driven_names n)
+
 -- The module is of the form: no parameters; ports of one bit, declared in the head, inputs and outputs; wires of one bit and
 -- instances of cells, connected by names to whole nets or to nothing; the names of nets differ, an instance connects a pin
--- once, and the nets that it names are declared.
+-- once, the nets that it names are declared, and each output and wire has a pin on it.
 abbrev pub is_form : Module → Bool
 is_form m =
     not (is_some_of m.params)
     && (list_all is_plain_port m.ports
     && (list_all is_plain_item m.items
-    && are_named_all (netlist_of m)))
+    && (are_named_all (netlist_of m)
+    && are_connected (netlist_of m))))
 
 -- the netlist of a text of one module, if it is of the form
 abbrev pub netlist_in : List Module → Option Netlist

@@ -1,12 +1,12 @@
 //! Whether the names of a netlist are consistent.
 
-ghost use Rattle.std.specs.Prelude.{◌≡◌, map, IfOk};
-ghost use Rattle.std.specs.List.{list_all};
-ghost use Rattle.pe_instances.specs.Form.{pins as pins_of_instance, is_declared as is_declared_in, is_named as is_named_in, are_named_all as are_named_all_in};
+ghost use Rattle.std.specs.Prelude.{◌≡◌, ◌++◌, map, IfOk, OnOk};
+ghost use Rattle.std.specs.List.{list_all, flat_map};
+ghost use Rattle.pe_instances.specs.Form.{pins as pins_of_instance, is_declared as is_declared_in, is_named as is_named_in, are_named_all as are_named_all_in, nets_on, are_connected as are_connected_in};
 
-use crate::names::nets;
+use crate::names::{driven_names, nets};
 use crate::parts::{Connection, Instance, Netlist};
-use pe_base::{Name, NameSet, Want, are_distinct};
+use pe_base::{Name, NameSet, Want, all_among, are_distinct};
 use sqlite_items::Items;
 use std::alloc::Global;
 
@@ -73,4 +73,37 @@ pub(crate) fn are_named_all(alloc: Global, n: &Netlist) -> Result<bool, Want>
     let known = NameSet::of(alloc, names.as_slice())?;
     let named = are_named(alloc, &known, n.instances.as_slice())?;
     Ok(named)
+}
+
+/// Adds the nets that the pins of an instance are on.
+fn add_nets(alloc: Global, found: &mut Items<Name>, i: &Instance) -> Result<(), Want>
+    ensures { OnOk result (found.new ≡ found.old ++ nets_on i.now) }
+{
+    for c in i.connections.as_slice() {
+        if let Some(net) = &c.net {
+            let net = net.copy(alloc)?;
+            found.push(net)?;
+        }
+    }
+    Ok(())
+}
+
+/// The nets that the pins of instances are on.
+fn connected(alloc: Global, instances: &[Instance]) -> Result<Items<Name>, Want>
+    ensures { IfOk result (λ nets. nets ≡ flat_map nets_on instances.now) }
+{
+    let mut found = Items::new(alloc);
+    for i in instances {
+        add_nets(alloc, &mut found, i)?;
+    }
+    Ok(found)
+}
+
+/// Whether each output and wire has a pin on it.
+pub(crate) fn are_connected(alloc: Global, n: &Netlist) -> Result<bool, Want>
+    ensures { IfOk result (λ b. b ≡ are_connected_in n.now) }
+{
+    let connected = connected(alloc, n.instances.as_slice())?;
+    let driven = driven_names(alloc, n)?;
+    all_among(alloc, connected.as_slice(), driven.as_slice())
 }

@@ -6,7 +6,7 @@ ghost use Rattle.std.specs.Option.{option_copied};
 ghost use Rattle.pe_assigns.specs.Form.{is_plain_port as is_plain_port_of, wires_in};
 ghost use Rattle.pe_instances.specs.Form.{is_whole, net_of, net_or_open, is_net_or_open, are_named, is_plain_item, connection_of, connections_of, instance_of, instances_in, netlist_of, netlist_in, is_form, is_net_form};
 
-use crate::consistent::are_named_all;
+use crate::consistent::{are_connected, are_named_all};
 use crate::parts::{Connection, Instance, Netlist};
 use pe_assigns::{input_names, is_plain_port, output_names, wire_of};
 use pe_base::{Name, Want};
@@ -249,7 +249,10 @@ fn read_module(alloc: Global, m: &Module) -> Result<Option<Netlist>, Want>
         return Ok(None);
     }
     let netlist = make_netlist(alloc, m)?;
-    if are_named_all(alloc, &netlist)? {
+    if !are_named_all(alloc, &netlist)? {
+        return Ok(None);
+    }
+    if are_connected(alloc, &netlist)? {
         Ok(Some(netlist))
     } else {
         Ok(None)
@@ -268,7 +271,8 @@ pub fn read_netlist(alloc: Global, source: &Source) -> Result<Option<Netlist>, W
 
 /// Whether a text has one module, and it is a gate netlist: no parameters; ports of one bit, declared in the head as inputs and
 /// outputs; wires of one bit; instances without parameters, connected by named pins, each to a whole net or to nothing. The
-/// names of nets differ, an instance connects a pin once, and the nets that it names are declared.
+/// names of nets differ, an instance connects a pin once, the nets that it names are declared, and each output and wire has a
+/// pin on it.
 pub fn is_net_form(alloc: Global, source: &Source) -> Result<bool, Want>
     ensures { IfOk result (λ b. b ≡ is_net_form source.now) }
 {

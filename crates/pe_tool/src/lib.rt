@@ -9,4 +9,6 @@ mod run;
 mod words;
 
 pub use check::{Plain, check_alone};
+pub use pe_front::{CheckFault, Fault, Part};
+pub use pe_questions::{Answer, Point, Question};
 pub use run::run_alone;

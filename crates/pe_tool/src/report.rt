@@ -81,10 +81,7 @@ fn counts_line(alloc: Global, answers: &[Answer]) -> Result<String, Want>
 {
     let held = held(answers);
     let mismatched = mismatched(answers);
-    match held.checked_add(mismatched) {
-        Some(total) => counts_text(alloc, total, held, mismatched),
-        None => Err(Want),
-    }
+    counts_text(alloc, held + mismatched, held, mismatched)
 }
 
 // Adds a line: two texts with what stands between them and before them.

@@ -2,12 +2,18 @@
 #![tactic(auto)]
 
 #[cfg(test)]
-mod designs;
+mod cases;
 #[cfg(test)]
 mod faults;
 #[cfg(test)]
 mod limits;
 #[cfg(test)]
+mod logic;
+#[cfg(test)]
+mod netlists;
+#[cfg(test)]
 mod refusals;
+#[cfg(test)]
+mod rows;
 #[cfg(test)]
 mod running;

@@ -1,8 +1,8 @@
 //! Refusals, and which of them comes first.
 
 use crate::running::{AND, FILES, LIB, OR, RTL, UPF, WORDS, run_on};
-use pe_base::Texts;
-use pe_tool::check_alone;
+use pe_base::{Texts, Val};
+use pe_tool::{Answer, check_alone};
 use sqlite_items::Items;
 use std::test::Fail;
 
@@ -146,10 +146,10 @@ fn refuses_cells_and_supplies(rt: HostRuntime) -> Result<(), Fail> {
             [RTL, NO_TABLE, LIB, unknown, ""],
             "refused: lib no cell NOR9\n",
         ),
-        // A library of one byte too few is wrong at its end.
+        // A library that is cut short is wrong at its end.
         (
-            [RTL, UPF, "library (pe) { cell (INV) { ", AND, ""],
-            "refused: lib syntax 28\n",
+            [RTL, UPF, "library (p) { cell (AND2) {", AND, ""],
+            "refused: lib syntax 27\n",
         ),
         ([RTL, UPF, "", AND, ""], "refused: lib syntax 0\n"),
         (
@@ -175,12 +175,20 @@ fn finds_the_first_assignment(rt: HostRuntime) -> Result<(), Fail> {
         net: Items::from_slice(alloc, OR.as_bytes())?,
         map: Items::new(alloc),
     };
-    match check_alone(alloc, &texts) {
-        Ok(plain) => {
-            assert_eq!(rt; plain.questions.len(), 2);
-            assert_eq!(rt; plain.answers.len(), 2);
-        }
-        Err(_) => return Err(Fail::from("refused")),
-    }
+    let Ok(plain) = check_alone(alloc, &texts) else {
+        return Err(Fail::from("refused"));
+    };
+    assert_eq!(rt; plain.questions.len(), 2);
+    // VDD, VSS, a and b.
+    let [
+        Answer::Mismatch { bits, rtl, net },
+        Answer::Sample { bits: first },
+    ] = plain.answers.as_slice()
+    else {
+        return Err(Fail::from("other answers"));
+    };
+    assert_eq!(rt; bits.as_slice(), [true, true, false, true].as_slice());
+    assert!(rt; matches!(*rtl, Val::Zero) && matches!(*net, Val::One));
+    assert_eq!(rt; first.as_slice(), [true, true, false, false].as_slice());
     Ok(())
 }
