@@ -6,7 +6,8 @@ ghost use Rattle.pe_base.specs.Names.{has_name};
 ghost use Rattle.pe_supply.specs.Labels.{relabel, with_joined, AreApart, AreLabelled, AreFirst, AreCounted};
 ghost use Rattle.pe_supply.specs.Numbers.{with_new, distinct, names_in, numbers_in, AreNumbered, number_of, supply_count, first_name};
 
-use pe_base::{Name, NameSet, Want, place_of};
+use pe_base::{Name, NameSet, Want};
+use pe_nets::NameIndex;
 use sqlite_items::Items;
 use std::alloc::Global;
 
@@ -59,6 +60,17 @@ fn joined(alloc: Global, labels: Items<u32>, i: usize, j: usize) -> Result<Items
     relabelled(alloc, labels.as_slice(), x.max(y), x.min(y))
 }
 
+/// The places of names, each of which stands there once.
+fn index_of<'a>(alloc: Global, names: &'a [Name]) -> Result<NameIndex<'a>, Want>
+    requires { AreApart names.now }
+    ensures { IfOk result (λ index. index ≡ names.now) }
+{
+    match NameIndex::of(alloc, names)? {
+        Some(index) => Ok(index),
+        None => Err(Want),
+    }
+}
+
 /// A label for each name, which is the place of the first name of its supply.
 fn label(alloc: Global, names: &[Name], ties: &[(Name, Name)]) -> Result<Items<u32>, Want>
     requires apart { AreApart names.now }
@@ -67,10 +79,11 @@ fn label(alloc: Global, names: &[Name], ties: &[(Name, Name)]) -> Result<Items<u
     requires nets { All (λ tie. has_name names.now tie.1 ≡ true) ties.now }
     ensures { IfOk result (AreLabelled names.now ties.now) }
 {
+    let index = index_of(alloc, names)?;
     let mut labels = numbers_below(alloc, names.len() as u32)?;
     for tie in ties {
-        let i = place_of(names, tie.0.bytes());
-        let j = place_of(names, tie.1.bytes());
+        let i = index.place(tie.0.bytes());
+        let j = index.place(tie.1.bytes());
         labels = joined(alloc, labels, i, j)?;
     }
     Ok(labels)
