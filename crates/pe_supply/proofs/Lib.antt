@@ -1,5 +1,6 @@
 pub mod Counting
 pub mod Driven
+pub mod Elsewhere
 pub mod Ending
 pub mod Formed
 pub mod Gatherings

@@ -1,16 +1,19 @@
 //! What drives supplies, and which nets ports are on.
 
-ghost use Rattle.std.specs.Prelude.{◌≡◌, ℕ, ◌<◌, ◌≤◌, true, false, not, length, map, filter, find, count_by, nat_lt, IsTrue, IfOk, MatchOption, Some, List, []};
+ghost use Rattle.std.specs.Prelude.{◌≡◌, ℕ, ◌<◌, ◌≤◌, ◌&&◌, ◌||◌, true, false, not, length, map, filter, find, count_by, nat_lt, slice_get, IsTrue, IfOk, MatchOption, Some, List, []};
 ghost use Rattle.std.specs.List.{list_any, range_with_len, All};
-ghost use Rattle.std.specs.Option.{option_copied, option_map};
-ghost use Rattle.pe_supply.specs.Drivers.{edge_of, edges_of, drives, is_driven_twice, is_root, are_two, is_elsewhere, first_elsewhere, next_of, IsLooped, IsFirstLooped};
+ghost use Rattle.std.specs.Option.{option_copied, option_map, option_map_or};
+ghost use Rattle.std.specs.Str.{bytes_eq};
+ghost use Rattle.pe_base.specs.Names.{has_name, place_of};
+ghost use Rattle.pe_supply.specs.Drivers.{edge_of, edges_of, drives, is_driven_twice, is_root, first_elsewhere, next_of, IsLooped, IsFirstLooped};
 ghost use Rattle.pe_supply.specs.Numbers.{number_of};
 
 use crate::numbers::number_of;
 use crate::plan::SwitchText;
 use crate::planning::output_name;
 use pe_base::{Name, NameSet, Want};
-use sqlite_items::Items;
+use pe_nets::NameIndex;
+use sqlite_items::{Items, at};
 use std::alloc::Global;
 
 /// The supply of a switch's output, and that of its input.
@@ -92,23 +95,23 @@ pub(crate) fn roots(alloc: Global, edges: &[(u32, u32)], count: u32) -> Result<I
     Ok(roots)
 }
 
-/// Whether both are ties of one port, to nets of two names.
-fn are_two(tie: &(Name, Name), other: &(Name, Name)) -> bool
-    ensures { result ≡ are_two tie.now other.now }
+/// Whether the net of a port's first tie, where it has one, is another than the tie's.
+///
+/// The first net of a port stands in `firsts` at the port's place in `ports`.
+fn is_second(ports: &NameIndex, firsts: &[&Name], tie: &(Name, Name)) -> bool
+    ensures { result ≡ option_map_or (λ first. not (bytes_eq first.now tie.now.1)) (slice_get firsts.now (place_of ports.now tie.now.0)) false }
 {
-    other.0.is(tie.0.bytes()) && !other.1.is(tie.1.bytes())
+    match at(firsts, ports.place(tie.0.bytes())) {
+        Some(first) => !first.is(tie.1.bytes()),
+        None => false,
+    }
 }
 
-/// Whether the port of a tie is on another net too.
-fn is_elsewhere(nets: &NameSet, earlier: &[(Name, Name)], tie: &(Name, Name)) -> bool
-    ensures { result ≡ is_elsewhere nets.now earlier.now tie.now }
+/// Whether the port of a tie is on another net too: that of the port's first tie, or one of its own name.
+fn is_elsewhere(nets: &NameSet, ports: &NameIndex, firsts: &[&Name], tie: &(Name, Name)) -> bool
+    ensures { result ≡ (option_map_or (λ first. not (bytes_eq first.now tie.now.1)) (slice_get firsts.now (place_of ports.now tie.now.0)) false || (has_name nets.now tie.now.0 && not (bytes_eq tie.now.0 tie.now.1))) }
 {
-    for other in earlier {
-        if are_two(tie, other) {
-            return true;
-        }
-    }
-    nets.contains(tie.0.bytes()) && !tie.0.is(tie.1.bytes())
+    is_second(ports, firsts, tie) || (nets.contains(tie.0.bytes()) && !tie.0.is(tie.1.bytes()))
 }
 
 /// The first port that is on two nets.
@@ -119,11 +122,16 @@ pub(crate) fn first_elsewhere(
 ) -> Result<Option<Name>, Want>
     ensures { IfOk result (λ port. port ≡ first_elsewhere nets.now [] ties.now) }
 {
-    let nets = NameSet::of(alloc, nets)?;
-    for (i, tie) in ties.iter().enumerate() {
-        if is_elsewhere(&nets, &ties[..i], tie) {
+    let known = NameSet::of(alloc, nets)?;
+    let mut ports = NameIndex::new(alloc);
+    let mut firsts: Items<&Name> = Items::new(alloc);
+    for tie in ties {
+        if is_elsewhere(&known, &ports, firsts.as_slice(), tie) {
             let port = tie.0.copy(alloc)?;
             return Ok(Some(port));
+        }
+        if ports.insert(tie.0.bytes())? {
+            firsts.push(&tie.1)?;
         }
     }
     Ok(None)
