@@ -16,3 +16,4 @@ pub mod Repeating
 pub mod Settling
 pub mod Switching
 pub mod Wholeness
+pub mod Words

@@ -1,6 +1,6 @@
 //! The supplies of an intent.
 
-ghost use Rattle.std.specs.Prelude.{◌≡◌, ◌≤◌, ◌⊎◌, length, List, ℕ, IfOk, IfErr, MatchResult, Result, Err};
+ghost use Rattle.std.specs.Prelude.{◌≡◌, ◌≤◌, ◌⊎◌, length, map, List, ℕ, IfOk, IfErr, MatchResult, Result, Err};
 ghost use Rattle.std.specs.List.{All, AllZip};
 ghost use Rattle.pe_supply.specs.declared.fault.SupplyFault.{SupplyFault};
 ghost use Rattle.pe_supply.specs.declared.fault.SupplyFault.TheVariants as fault;
@@ -8,6 +8,7 @@ ghost use Rattle.pe_supply.specs.declared.plan.Plan.{Plan};
 ghost use Rattle.pe_supply.specs.declared.supplies.Supplies.{Supplies};
 ghost use Rattle.pe_supply.specs.Building.{AreNamed, AreDriven, AreOnNets, AreFed, HaveFunctions, HaveRows, HaveTable, AreLong, HaveStates, AreFew, AreSupplies, IsBuilt, IsRefusal, IsRefused, IsOutcome, IsSwitchOf};
 ghost use Rattle.pe_supply.specs.Drivers.{edges_of};
+ghost use Rattle.pe_supply.specs.Numbers.{number_of};
 ghost use Rattle.pe_supply.specs.Steps.{told};
 ghost use Rattle.pe_supply.specs.Tables.{table_in};
 ghost use Rattle.pe_supply.specs.Plans.{plan_of};
@@ -23,7 +24,7 @@ use crate::planning::plan_of;
 use crate::supplies::{Supplies, Switch};
 use crate::switches::make_switches;
 use crate::tables::{
-    columns, first_unknown, first_unlike, rows_in, second_table, sets_in, table_in,
+    columns, first_unknown, first_unlike, port_numbers, rows_in, second_table, sets_in, table_in,
 };
 use crate::uses::first_missing;
 use pe_base::Name;
@@ -156,19 +157,21 @@ fn check_lengths(alloc: Global, plan: &Plan, names: &[(Name, u32)]) -> Result<()
     }
 }
 
-/// Whether the words of the rows are states.
+/// Whether the words of the rows are states. The numbers are those of the states' ports.
 fn check_words(
     alloc: Global,
     plan: &Plan,
     names: &[(Name, u32)],
+    numbers: &[u32],
     table: &[u32],
 ) -> Result<(), SupplyFault>
     requires long { AreLong plan.now names.now }
+    requires numbers { numbers.now ≡ map (λ state. number_of names.now state.port) plan.now.states }
     requires table { table.now ≡ table_in names.now plan.now.tables }
     ensures { MatchResult result (λ _. HaveStates plan.now names.now) (IsRefusal plan.now) }
 {
     let states = plan.states.as_slice();
-    match first_unknown(names, states, table, plan.rows.as_slice()) {
+    match first_unknown(names, numbers, states, table, plan.rows.as_slice()) {
         Some(name) => {
             let name = name.copy(alloc)?;
             Err(SupplyFault::NoState { name })
@@ -182,16 +185,18 @@ fn check_rows(
     alloc: Global,
     plan: &Plan,
     names: &[(Name, u32)],
+    numbers: &[u32],
     table: &[u32],
 ) -> Result<(), SupplyFault>
     requires functions { HaveFunctions plan.now names.now }
+    requires numbers { numbers.now ≡ map (λ state. number_of names.now state.port) plan.now.states }
     requires table { table.now ≡ table_in names.now plan.now.tables }
     ensures { MatchResult result (λ _. HaveStates plan.now names.now) (IsRefusal plan.now) }
 {
     check_some(plan, names)?;
     check_table(alloc, plan, names)?;
     check_lengths(alloc, plan, names)?;
-    check_words(alloc, plan, names, table)?;
+    check_words(alloc, plan, names, numbers, table)?;
     Ok(())
 }
 
@@ -236,11 +241,13 @@ fn make_supplies(
     alloc: Global,
     plan: &Plan,
     names: Items<(Name, u32)>,
+    numbers: &[u32],
     edges: &[(u32, u32)],
     table: Items<u32>,
     switches: Items<Switch>,
 ) -> Result<Supplies, SupplyFault>
     requires few { AreFew plan.now names }
+    requires numbers { numbers.now ≡ map (λ state. number_of names state.port) plan.now.states }
     requires edges { edges.now ≡ edges_of names plan.now.switches }
     requires table { table ≡ table_in names plan.now.tables }
     requires switches { AllZip (IsSwitchOf names) plan.now.switches switches }
@@ -253,6 +260,7 @@ fn make_supplies(
     let rows = rows_in(
         alloc,
         names.as_slice(),
+        numbers,
         states,
         table.as_slice(),
         plan.rows.as_slice(),
@@ -282,9 +290,11 @@ fn finish(
 {
     let columns = columns(plan.tables.as_slice());
     let table = table_in(alloc, names.as_slice(), columns)?;
-    check_rows(alloc, plan, names.as_slice(), table.as_slice())?;
+    let numbers = port_numbers(alloc, names.as_slice(), plan.states.as_slice())?;
+    let ports = numbers.as_slice();
+    check_rows(alloc, plan, names.as_slice(), ports, table.as_slice())?;
     check_sizes(plan, names.as_slice())?;
-    match make_supplies(alloc, plan, names, edges, table, switches) {
+    match make_supplies(alloc, plan, names, ports, edges, table, switches) {
         Ok(supplies) => Ok(supplies),
         Err(_memory) => Err(SupplyFault::Memory),
     }

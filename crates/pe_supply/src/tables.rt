@@ -62,24 +62,49 @@ pub(crate) fn table_in(
     Ok(table)
 }
 
-/// Whether it is a state of this supply, of this name.
-fn is_state(names: &[(Name, u32)], supply: u32, word: &[u8], state: &PortState) -> bool
-    ensures { result ≡ is_state names.now supply word.now state.now }
+/// The numbers of the supplies that the states' ports are.
+pub(crate) fn port_numbers(
+    alloc: Global,
+    names: &[(Name, u32)],
+    states: &[PortState],
+) -> Result<Items<u32>, Want>
+    ensures { IfOk result (λ numbers. numbers ≡ map (λ state. number_of names.now state.port) states.now) }
 {
-    number_of(names, state.port.bytes()) == supply && state.name.is(word)
+    let mut numbers = Items::new(alloc);
+    for state in states {
+        numbers.push(number_of(names, state.port.bytes()))?;
+    }
+    Ok(numbers)
 }
 
-/// What the first such state says of its supply.
+/// Whether it is a state of this supply, of this name. Its port is the supply of the number.
+fn is_state(
+    names: &[(Name, u32)],
+    number: u32,
+    supply: u32,
+    word: &[u8],
+    state: &PortState,
+) -> bool
+    requires { number ≡ number_of names.now state.now.port }
+    ensures { result ≡ is_state names.now supply word.now state.now }
+{
+    let _names = names;
+    number == supply && state.name.is(word)
+}
+
+/// What the first such state says of its supply. The numbers are those of the states' ports.
 fn state_level(
     names: &[(Name, u32)],
+    numbers: &[u32],
     states: &[PortState],
     supply: u32,
     word: &[u8],
 ) -> Option<Level>
+    requires { numbers.now ≡ map (λ state. number_of names.now state.port) states.now }
     ensures { result ≡ level_in (find (is_state names.now supply word.now) states.now) }
 {
-    for state in states {
-        if is_state(names, supply, word, state) {
+    for (i, state) in states.iter().enumerate() {
+        if is_state(names, numbers[i], supply, word, state) {
             return Some(if state.on { Level::On } else { Level::Off });
         }
     }
@@ -87,28 +112,37 @@ fn state_level(
 }
 
 /// What a word says of a supply.
-fn level_of(names: &[(Name, u32)], states: &[PortState], supply: u32, word: &Name) -> Option<Level>
+fn level_of(
+    names: &[(Name, u32)],
+    numbers: &[u32],
+    states: &[PortState],
+    supply: u32,
+    word: &Name,
+) -> Option<Level>
+    requires { numbers.now ≡ map (λ state. number_of names.now state.port) states.now }
     ensures { result ≡ level_of names.now states.now supply word.now }
 {
     if word.is(b"*") {
         return Some(Level::Any);
     }
-    state_level(names, states, supply, word.bytes())
+    state_level(names, numbers, states, supply, word.bytes())
 }
 
 /// The first word of a row that is no state of its supply.
 fn unknown_in<'a>(
     names: &[(Name, u32)],
+    numbers: &[u32],
     states: &[PortState],
     table: &[u32],
     words: &'a [Name],
 ) -> Option<&'a Name>
+    requires { numbers.now ≡ map (λ state. number_of names.now state.port) states.now }
     ensures { option_copied result ≡ option_map (λ cell. cell.1) (find (is_unknown names.now states.now) (zip table.now words.now)) }
 {
     for (i, word) in words.iter().enumerate() {
         match table.get(i) {
             Some(supply) => {
-                if level_of(names, states, *supply, word).is_none() {
+                if level_of(names, numbers, states, *supply, word).is_none() {
                     return Some(word);
                 }
             }
@@ -118,17 +152,19 @@ fn unknown_in<'a>(
     None
 }
 
-/// The first word that is no state of its supply.
+/// The first word that is no state of its supply. The numbers are those of the states' ports.
 pub(crate) fn first_unknown<'a>(
     names: &[(Name, u32)],
+    numbers: &[u32],
     states: &[PortState],
     table: &[u32],
     rows: &'a [RowText],
 ) -> Option<&'a Name>
+    requires { numbers.now ≡ map (λ state. number_of names.now state.port) states.now }
     ensures { option_copied result ≡ first_unknown names.now states.now table.now rows.now }
 {
     for row in rows {
-        match unknown_in(names, states, table, row.words.as_slice()) {
+        match unknown_in(names, numbers, states, table, row.words.as_slice()) {
             Some(word) => return Some(word),
             None => {}
         }
@@ -140,17 +176,19 @@ pub(crate) fn first_unknown<'a>(
 fn levels_in(
     alloc: Global,
     names: &[(Name, u32)],
+    numbers: &[u32],
     states: &[PortState],
     table: &[u32],
     words: &[Name],
 ) -> Result<Items<Level>, Want>
+    requires { numbers.now ≡ map (λ state. number_of names.now state.port) states.now }
     ensures { IfOk result (λ levels. levels ≡ map (λ cell. unwrap_or (level_of names.now states.now cell.0 cell.1) Any) (zip table.now words.now)) }
 {
     let mut levels = Items::new(alloc);
     for (i, word) in words.iter().enumerate() {
         match table.get(i) {
             Some(supply) => {
-                let level = level_of(names, states, *supply, word);
+                let level = level_of(names, numbers, states, *supply, word);
                 levels.push(level.unwrap_or(Level::Any))?;
             }
             None => return Ok(levels),
@@ -159,20 +197,22 @@ fn levels_in(
     Ok(levels)
 }
 
-/// The rows.
+/// The rows. The numbers are those of the states' ports.
 pub(crate) fn rows_in(
     alloc: Global,
     names: &[(Name, u32)],
+    numbers: &[u32],
     states: &[PortState],
     table: &[u32],
     texts: &[RowText],
 ) -> Result<Items<Row>, Want>
+    requires { numbers.now ≡ map (λ state. number_of names.now state.port) states.now }
     ensures { IfOk result (λ rows. rows ≡ map (row_in names.now states.now table.now) texts.now) }
 {
     let mut rows = Items::new(alloc);
     for text in texts {
         let name = text.name.copy(alloc)?;
-        let levels = levels_in(alloc, names, states, table, text.words.as_slice())?;
+        let levels = levels_in(alloc, names, numbers, states, table, text.words.as_slice())?;
         rows.push(Row { name, levels })?;
     }
     Ok(rows)
