@@ -78,13 +78,7 @@ pub(crate) fn port_numbers(
 }
 
 /// Whether it is a state of this supply, of this name. Its port is the supply of the number.
-fn is_state(
-    names: &[(Name, u32)],
-    number: u32,
-    supply: u32,
-    word: &[u8],
-    state: &PortState,
-) -> bool
+fn is_state(names: &[(Name, u32)], number: u32, supply: u32, word: &[u8], state: &PortState) -> bool
     requires { number ≡ number_of names.now state.now.port }
     ensures { result ≡ is_state names.now supply word.now state.now }
 {
