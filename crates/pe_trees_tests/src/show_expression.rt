@@ -72,11 +72,9 @@ fn show_number(alloc: Global, out: &mut String, digits: &[Digit]) -> Result<(), 
 /// Writes expressions with commas between them.
 #[cycle(expressions)]
 pub(crate) fn show_list(alloc: Global, out: &mut String, values: &[Ex]) -> Result<(), AllocError> {
-    let mut comma = "";
-    for value in values {
-        out.push_str(comma)?;
+    for (i, value) in values.iter().enumerate() {
+        out.push_str(if i == 0 { "" } else { ", " })?;
         show(alloc, out, value)?;
-        comma = ", ";
     }
     Ok(())
 }

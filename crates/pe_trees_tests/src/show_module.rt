@@ -22,11 +22,9 @@ fn show_target(alloc: Global, out: &mut String, target: &Target) -> Result<(), A
             show_select(alloc, out, select)
         }
         Target::Join(parts) => {
-            let mut comma = "{";
-            for part in parts.as_slice() {
-                out.push_str(comma)?;
+            for (i, part) in parts.as_slice().iter().enumerate() {
+                out.push_str(if i == 0 { "{" } else { ", " })?;
                 show_target(alloc, out, part)?;
-                comma = ", ";
             }
             out.push_str("}")
         }
@@ -145,12 +143,10 @@ fn edge_mark(edge: Option<Edge>) -> &'static str {
 }
 
 fn show_events(out: &mut String, events: &[Event]) -> Result<(), AllocError> {
-    let mut mark = "(";
-    for event in events {
-        out.push_str(mark)?;
+    for (i, event) in events.iter().enumerate() {
+        out.push_str(if i == 0 { "(" } else { ", " })?;
         out.push_str(edge_mark(event.edge))?;
         show_name(out, &event.name)?;
-        mark = ", ";
     }
     out.push_str(if events.is_empty() { "*" } else { ")" })
 }
@@ -214,12 +210,10 @@ fn show_nets(
     out: &mut String,
     nets: &[(Name, Option<Ex>)],
 ) -> Result<(), AllocError> {
-    let mut comma = "";
-    for net in nets {
-        out.push_str(comma)?;
+    for (i, net) in nets.iter().enumerate() {
+        out.push_str(if i == 0 { "" } else { ", " })?;
         show_name(out, &net.0)?;
         show_driver(alloc, out, &net.1)?;
-        comma = ", ";
     }
     Ok(())
 }
@@ -229,13 +223,11 @@ fn show_settings(
     out: &mut String,
     settings: &[(Name, Ex)],
 ) -> Result<(), AllocError> {
-    let mut comma = "";
-    for setting in settings {
-        out.push_str(comma)?;
+    for (i, setting) in settings.iter().enumerate() {
+        out.push_str(if i == 0 { "" } else { ", " })?;
         show_name(out, &setting.0)?;
         out.push_str(" = ")?;
         show(alloc, out, &setting.1)?;
-        comma = ", ";
     }
     Ok(())
 }
@@ -245,13 +237,11 @@ fn show_assigns(
     out: &mut String,
     assigns: &[(Target, Ex)],
 ) -> Result<(), AllocError> {
-    let mut comma = "";
-    for assign in assigns {
-        out.push_str(comma)?;
+    for (i, assign) in assigns.iter().enumerate() {
+        out.push_str(if i == 0 { "" } else { ", " })?;
         show_target(alloc, out, &assign.0)?;
         out.push_str(" = ")?;
         show(alloc, out, &assign.1)?;
-        comma = ", ";
     }
     Ok(())
 }
@@ -267,14 +257,12 @@ fn show_pins(alloc: Global, out: &mut String, pins: &Pins) -> Result<(), AllocEr
     match pins {
         Pins::Placed(values) => show_list(alloc, out, values.as_slice()),
         Pins::Named(pins) => {
-            let mut mark = ".";
-            for pin in pins.as_slice() {
-                out.push_str(mark)?;
+            for (i, pin) in pins.as_slice().iter().enumerate() {
+                out.push_str(if i == 0 { "." } else { ", ." })?;
                 show_name(out, &pin.0)?;
                 out.push_str("(")?;
                 show_pin(alloc, out, &pin.1)?;
                 out.push_str(")")?;
-                mark = ", .";
             }
             Ok(())
         }
@@ -314,12 +302,10 @@ fn show_instances(
     out: &mut String,
     instances: &[(Name, Option<Pins>)],
 ) -> Result<(), AllocError> {
-    let mut mark = " ";
-    for instance in instances {
-        out.push_str(mark)?;
+    for (i, instance) in instances.iter().enumerate() {
+        out.push_str(if i == 0 { " " } else { ", " })?;
         show_name(out, &instance.0)?;
         show_connections(alloc, out, &instance.1)?;
-        mark = ", ";
     }
     Ok(())
 }
@@ -367,14 +353,12 @@ fn show_item(alloc: Global, out: &mut String, item: &Item) -> Result<(), AllocEr
 }
 
 fn show_head_params(alloc: Global, out: &mut String, params: &[Param]) -> Result<(), AllocError> {
-    let mut mark = " #(";
-    for param in params {
-        out.push_str(mark)?;
+    for (i, param) in params.iter().enumerate() {
+        out.push_str(if i == 0 { " #(" } else { ", " })?;
         show_range(alloc, out, &param.range)?;
         show_name(out, &param.name)?;
         out.push_str(" = ")?;
         show(alloc, out, &param.value)?;
-        mark = ", ";
     }
     out.push_str(if params.is_empty() { "" } else { ")" })
 }
@@ -387,11 +371,9 @@ fn show_head_port(alloc: Global, out: &mut String, port: &HeadPort) -> Result<()
 }
 
 fn show_head_ports(alloc: Global, out: &mut String, ports: &[HeadPort]) -> Result<(), AllocError> {
-    let mut mark = " (";
-    for port in ports {
-        out.push_str(mark)?;
+    for (i, port) in ports.iter().enumerate() {
+        out.push_str(if i == 0 { " (" } else { ", " })?;
         show_head_port(alloc, out, port)?;
-        mark = ", ";
     }
     out.push_str(if ports.is_empty() { "" } else { ")" })
 }
@@ -415,11 +397,9 @@ fn shown(alloc: Global, net: bool, text: &[u8]) -> Result<String, Fail> {
         read_verilog(alloc, Lang::Rtl, text)?
     };
     let mut out = String::new(alloc);
-    let mut line = "";
-    for module in source.modules.as_slice() {
-        out.push_str(line)?;
+    for (i, module) in source.modules.as_slice().iter().enumerate() {
+        out.push_str(if i == 0 { "" } else { "\n" })?;
         show_module(alloc, &mut out, module)?;
-        line = "\n";
     }
     Ok(out)
 }
