@@ -47,3 +47,11 @@ told rtl net (Some c) = Mismatch c.bits (value_at c.rtl.items rtl) (value_at c.n
 abbrev pub sampled : Option Case → Answer
 sampled None = Empty
 sampled (Some c) = Sample c.bits
+
+-- a mismatch of these bits, whose values are those that the two settled maps of their cycle have at these places
+pub record IsReplayed (d : Design) (rtl net : ℕ) (bits : List Bool) (answer : Answer) : Type 0 where
+  pub states : List Bool
+  pub rtl_map : List Val
+  pub net_map : List Val
+  pub cycle : IsCycle d (roots_of d bits) (inputs_of d bits) states rtl_map net_map
+  pub is : answer ≡ Mismatch bits (value_at rtl_map rtl) (value_at net_map net)

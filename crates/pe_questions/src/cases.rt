@@ -48,8 +48,13 @@ fn split<'a>(d: &Design, bits: &'a [bool]) -> (&'a [bool], &'a [bool])
     bits.split_at(d.supplies.roots.len().min(bits.len()))
 }
 
-// The case of an assignment.
-fn case_of(alloc: Global, d: &Design, places: &Places, bits: &[bool]) -> Result<Case, Want>
+/// The case of an assignment.
+pub(crate) fn case_of(
+    alloc: Global,
+    d: &Design,
+    places: &Places,
+    bits: &[bool],
+) -> Result<Case, Want>
     requires sound { IsSound d.now }
     requires rtl { places.now.rtl ≡ nets_of d.now.rtl }
     requires net { places.now.net ≡ net_nets_of d.now.circuit.netlist }

@@ -1,6 +1,6 @@
 //! The answers to the questions of a design, by trying all assignments.
 
-ghost use Rattle.std.specs.Prelude.{◌≡◌, ◌≢◌, ◌≤◌, true, List, IfOk, find};
+ghost use Rattle.std.specs.Prelude.{◌≡◌, ◌≢◌, ◌≤◌, true, List, IfOk, find, length};
 ghost use Rattle.std.specs.Option.{option_copied};
 ghost use Rattle.pe_nets.specs.Nets.{name_at};
 ghost use Rattle.pe_base.specs.Names.{place_of, are_distinct};
@@ -14,10 +14,10 @@ ghost use Rattle.pe_questions.specs.declared.answer.Answer.{Answer as Told};
 ghost use Rattle.pe_questions.specs.Assignments.{width, all_assignments};
 ghost use Rattle.pe_questions.specs.Questions.{levels_of, levels_after, row_of, questions as questions_of};
 ghost use Rattle.pe_questions.specs.Answers.{IsOutputAnswer, IsLiveAnswer, IsAnswer, AreAnswers, mismatched as mismatched_of};
-ghost use Rattle.pe_questions.specs.Cases.{AreCases, value_at, permits, refutes, told, sampled, is_refined};
+ghost use Rattle.pe_questions.specs.Cases.{AreCases, value_at, permits, refutes, told, sampled, is_refined, IsReplayed};
 
 use crate::answer::Answer;
-use crate::cases::{Case, Places, cases};
+use crate::cases::{Case, Places, case_of, cases};
 use crate::question::{Point, Question};
 use pe_base::{Name, Step, Val, Want, refines};
 use pe_design::Design;
@@ -103,6 +103,31 @@ fn first_permitted<'a>(d: &Design, step: Step, cases: &'a [Case]) -> Option<&'a 
     None
 }
 
+// The mismatch of an assignment: the values of both sides at these places, by an evaluation of its own, so that none of
+// them rests on a stored case.
+fn replayed(
+    alloc: Global,
+    d: &Design,
+    places: &Places,
+    rtl: usize,
+    net: usize,
+    bits: &[bool],
+) -> Result<Answer, Want>
+    requires sound { IsSound d.now }
+    requires rtl { places.now.rtl ≡ nets_of d.now.rtl }
+    requires net { places.now.net ≡ net_nets_of d.now.circuit.netlist }
+    requires cells { places.now.cells ≡ d.now.circuit.cells }
+    requires long { length bits.now ≡ width d.now }
+    ensures { IfOk result (IsReplayed d.now rtl net bits.now) }
+{
+    let case = case_of(alloc, d, places, bits)?;
+    Ok(Answer::Mismatch {
+        rtl: value_at(case.rtl.as_slice(), rtl),
+        net: value_at(case.net.as_slice(), net),
+        bits: case.bits,
+    })
+}
+
 // The answer to whether an output refines.
 fn output_answer(
     alloc: Global,
@@ -115,6 +140,7 @@ fn output_answer(
     requires sound { IsSound d.now }
     requires rtl { places.now.rtl ≡ nets_of d.now.rtl }
     requires net { places.now.net ≡ net_nets_of d.now.circuit.netlist }
+    requires cells { places.now.cells ≡ d.now.circuit.cells }
     requires cases { AreCases d.now (all_assignments d.now) cases.now }
     ensures { IfOk result (IsOutputAnswer d.now step output.now) }
 {
@@ -122,11 +148,7 @@ fn output_answer(
     let net = places.net.place(output);
     match first_refuting(d, step, rtl, net, cases) {
         None => Ok(Answer::Holds),
-        Some(case) => Ok(Answer::Mismatch {
-            bits: Items::from_slice(alloc, case.bits.as_slice())?,
-            rtl: value_at(case.rtl.as_slice(), rtl),
-            net: value_at(case.net.as_slice(), net),
-        }),
+        Some(case) => replayed(alloc, d, places, rtl, net, case.bits.as_slice()),
     }
 }
 
@@ -166,6 +188,7 @@ fn answer(
     requires sound { IsSound d.now }
     requires rtl { places.now.rtl ≡ nets_of d.now.rtl }
     requires net { places.now.net ≡ net_nets_of d.now.circuit.netlist }
+    requires cells { places.now.cells ≡ d.now.circuit.cells }
     requires cases { AreCases d.now (all_assignments d.now) cases.now }
     requires outputs { outputs.now ≡ output_names_of d.now.rtl }
     ensures { IfOk result (IsAnswer d.now question) }
@@ -195,6 +218,7 @@ fn all_answers(
     requires sound { IsSound d.now }
     requires rtl { places.now.rtl ≡ nets_of d.now.rtl }
     requires net { places.now.net ≡ net_nets_of d.now.circuit.netlist }
+    requires cells { places.now.cells ≡ d.now.circuit.cells }
     requires cases { AreCases d.now (all_assignments d.now) cases.now }
     requires outputs { outputs.now ≡ output_names_of d.now.rtl }
     ensures { IfOk result (AreAnswers d.now questions.now) }
@@ -219,8 +243,9 @@ fn index_of<'a>(alloc: Global, names: &'a [Name]) -> Result<NameIndex<'a>, Want>
 
 /// An answer for each question, by trying all assignments of the roots and then of the RTL's inputs in counting order.
 ///
-/// To an output's question it is that no assignment refutes, or the first that does, with the values of both sides; to a
-/// live one the first assignment that gives a cycle in which the row holds, or that there is none.
+/// To an output's question it is that no assignment refutes, or the first that does, with the values of both sides, which
+/// are evaluated a second time for the answer; to a live one the first assignment that gives a cycle in which the row
+/// holds, or that there is none.
 pub fn answers(alloc: Global, d: &Design, questions: &[Question]) -> Result<Items<Answer>, Want>
     requires sound { IsSound d.now }
     requires few { width d.now ≤ 16 }
