@@ -1,4 +1,5 @@
 pub mod Answering
+pub mod Short
 pub mod Uses
 pub mod Viewed
 pub mod Sounding

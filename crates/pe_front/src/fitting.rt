@@ -35,7 +35,7 @@ fn fits(alloc: Global, m: &Module, s: &Supplies, c: &Circuit) -> Result<bool, Wa
 {
     match NameIndex::of(alloc, c.cells.as_slice())? {
         Some(cells) => is_fit(alloc, m, s.names.as_slice(), s.roots.as_slice(), c, &cells),
-        None => Err(Want),
+        None => unreachable!(),
     }
 }
 

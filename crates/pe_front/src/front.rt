@@ -3,6 +3,7 @@
 ghost use Rattle.std.specs.Prelude.{◌≡◌, true, IfOk, Result};
 ghost use Rattle.pe_base.specs.declared.text.Texts.{Texts as Five};
 ghost use Rattle.pe_assigns.specs.Form.{is_form, is_some_of};
+ghost use Rattle.pe_cells.specs.Functions.{are_short_cells};
 ghost use Rattle.pe_intent.specs.Domain.{is_one_domain};
 ghost use Rattle.pe_design.specs.declared.design.Design.{Design as Whole};
 ghost use Rattle.pe_design.specs.Sound.{IsSound};
@@ -38,6 +39,7 @@ fn from_views(
 ) -> Result<Design, CheckFault>
     requires rtl { is_form m ≡ true }
     requires intent { is_one_domain intent.now ≡ true }
+    requires library { are_short_cells library.now ≡ true }
     ensures given { Answers (FromViews m intent.now library.now netlist) result }
     ensures sound { IfOk result IsSound }
     ensures narrow { IfOk result IsNarrow }
@@ -67,6 +69,7 @@ fn from_map(
 ) -> Result<Design, CheckFault>
     requires rtl { is_form m ≡ true }
     requires intent { is_one_domain intent.now ≡ true }
+    requires library { are_short_cells library.now ≡ true }
     ensures given { Answers (FromMap texts.now m intent.now library.now netlist) result }
     ensures sound { IfOk result IsSound }
     ensures narrow { IfOk result IsNarrow }
@@ -92,6 +95,7 @@ fn from_net(
 ) -> Result<Design, CheckFault>
     requires rtl { is_form m ≡ true }
     requires intent { is_one_domain intent.now ≡ true }
+    requires library { are_short_cells library.now ≡ true }
     ensures given { Answers (FromNet texts.now m intent.now library.now) result }
     ensures sound { IfOk result IsSound }
     ensures narrow { IfOk result IsNarrow }

@@ -7,7 +7,7 @@ ghost use Rattle.pe_cells.specs.WellFormed.{IsWellFormed};
 ghost use Rattle.pe_front.specs.Views.{AreViews, AreUnviewed};
 
 use pe_base::{Name, Want};
-use pe_cells::{CellFault, CellView, has_short_functions, view};
+use pe_cells::{CellFault, CellView, view};
 use pe_liberty_read::Group;
 use sqlite_items::Items;
 use std::alloc::Global;
@@ -21,7 +21,11 @@ fn add(views: &mut Items<CellView>, view: CellView) -> Result<(), Want>
 }
 
 /// The views of cells, or why the first that has none has none.
-fn views_of(alloc: Global, library: &Group, cells: &[Name]) -> Result<Items<CellView>, CellFault>
+pub(crate) fn views(
+    alloc: Global,
+    library: &Group,
+    cells: &[Name],
+) -> Result<Items<CellView>, CellFault>
     requires { are_short_cells library.now ≡ true }
     ensures found { IfOk result (AreViews library.now cells.now) }
     ensures well_formed { IfOk result (All IsWellFormed) }
@@ -37,21 +41,4 @@ fn views_of(alloc: Global, library: &Group, cells: &[Name]) -> Result<Items<Cell
         }
     }
     Ok(views)
-}
-
-/// The views of cells, or why the first that has none has none. No text that is read has a function that is too long; one that
-/// has is told as want of memory.
-pub(crate) fn views(
-    alloc: Global,
-    library: &Group,
-    cells: &[Name],
-) -> Result<Items<CellView>, CellFault>
-    ensures found { IfOk result (AreViews library.now cells.now) }
-    ensures well_formed { IfOk result (All IsWellFormed) }
-    ensures refused { IfErr result (AreUnviewed library.now cells.now) }
-{
-    if !has_short_functions(library) {
-        return Err(CellFault::Memory);
-    }
-    views_of(alloc, library, cells)
 }

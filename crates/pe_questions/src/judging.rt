@@ -237,7 +237,7 @@ fn index_of<'a>(alloc: Global, names: &'a [Name]) -> Result<NameIndex<'a>, Want>
 {
     match NameIndex::of(alloc, names)? {
         Some(index) => Ok(index),
-        None => Err(Want),
+        None => unreachable!(),
     }
 }
 

@@ -3,7 +3,11 @@ use Rattle.pe_liberty_read.specs.Reading.{IsLiberty, IsReadFault}
 use Rattle.pe_front.specs.declared.fault.Part.TheVariants.{Lib}
 use Rattle.pe_front.specs.Given.{FromNet, FromLib}
 use Rattle.pe_front.proofs.Answering.{read_on, unread}
+use Rattle.pe_front.proofs.Short.{short_cells}
 use Rattle.pe_front.proofs.front.from_lib.Goals as goal
+
+pub from_net-requires-clause-library : goal.from_net-requires-clause-library
+from_net-requires-clause-library c = short_cells c.as_slice.result.now c.in-Ok.library c.in-Ok.ensures.found
 
 pub returns-in-Ok-clause-given : goal.returns-in-Ok-clause-given
 unfolding FromLib

@@ -4,7 +4,7 @@ use Rattle.std.proofs.lemmas.List.Elements.{All-push}
 use Rattle.pe_cells.specs.WellFormed.{IsWellFormed}
 use Rattle.pe_front.specs.Views.{AreViews}
 use Rattle.pe_front.proofs.Viewed.{viewed_more, refused_at}
-use Rattle.pe_front.proofs.views.views_of.Goals as goal
+use Rattle.pe_front.proofs.views.views.Goals as goal
 
 pub returns-in-Err-clause-refused : goal.returns-in-Err-clause-refused
 returns-in-Err-clause-refused c =
