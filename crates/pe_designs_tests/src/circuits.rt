@@ -134,7 +134,7 @@ fn settled(alloc: Global, text: &str, states: &[bool], inputs: &[bool]) -> Resul
 #[test]
 fn which_netlists_are_of_the_form(rt: HostRuntime) -> Result<(), Fail> {
     let alloc = rt.alloc();
-    let rows: [(&str, bool); 14] = [
+    let rows: [(&str, bool); 16] = [
         (
             "module t(input a, output y); INV u(.A(a), .Y(y)); endmodule",
             true,
@@ -143,7 +143,16 @@ fn which_netlists_are_of_the_form(rt: HostRuntime) -> Result<(), Fail> {
             "module t(input a, output y); wire w; INV u(.A(a), .Y(w)), v(.A(w), .Y(y), .Q()); endmodule",
             true,
         ),
-        ("module t(input a, output y); INV u(); endmodule", true),
+        (
+            "module t(input a, output y); INV u(), v(.Y(y)); endmodule",
+            true,
+        ),
+        // An output or a wire that no pin is on.
+        ("module t(input a, output y); INV u(); endmodule", false),
+        (
+            "module t(input a, output y); wire w; INV u(.A(a), .Y(y)); endmodule",
+            false,
+        ),
         // A net that is not declared, or declared twice, and a pin that is connected twice.
         (
             "module t(input a, output y); INV u(.A(b), .Y(y)); endmodule",
@@ -223,7 +232,11 @@ fn which_netlists_fit(rt: HostRuntime) -> Result<(), Fail> {
             "BUF u(.A(a), .Y(y), .Z(y), .VDD(VDD), .VSS(VSS)); INV v(.A(a), .Y(z), .VDD(VDD), .VSS(VSS));",
             false,
         ),
-        (HEAD, "BUF u(.A(a), .Y(y), .VDD(VDD), .VSS(VSS));", false),
+        (
+            HEAD,
+            "BUF u(.A(a), .Y(y), .VDD(VDD), .VSS(VSS)); INV v(.A(z), .VDD(VDD), .VSS(VSS));",
+            false,
+        ),
         (
             HEAD,
             "BUF u(.A(a), .Y(y), .Z(b), .VDD(VDD), .VSS(VSS)); INV v(.A(a), .Y(z), .VDD(VDD), .VSS(VSS));",

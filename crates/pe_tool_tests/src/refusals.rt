@@ -132,10 +132,14 @@ fn refuses_what_is_not_built(rt: HostRuntime) -> Result<(), Fail> {
 fn refuses_cells_and_supplies(rt: HostRuntime) -> Result<(), Fail> {
     let unknown =
         "module top(input a, input b, output y, input VDD, input VSS); NOR9 u1 (.A(a), .B(b), .Y(y), .VDD(VDD), .VSS(VSS)); endmodule";
+    let idle =
+        "module top(input a, input b, output y, input VDD, input VSS); wire n; NOR9 u1 (.A(a), .B(b), .Y(y), .VDD(VDD), .VSS(VSS)); endmodule";
     let bad_function =
         "library (l) { cell (AND2) { pg_pin (VDD) { pg_type : primary_power; } pg_pin (VSS) { pg_type : primary_ground; } pin (A) { direction : input; } pin (Y) { direction : output; function : \"A * Q\"; } } }";
     let cases = [
         ([RTL, UPF, LIB, unknown, ""], "refused: lib no cell NOR9\n"),
+        // That nothing drives a net without a pin shows in the netlist alone, and so before the cells.
+        ([RTL, UPF, LIB, idle, ""], "refused: net not built\n"),
         (
             [RTL, UPF, bad_function, AND, ""],
             "refused: lib expression AND2 function\n",
