@@ -105,26 +105,27 @@ const EIGHT_ROWS: &str = rows!(
     "AGAIN -pst T -state {HV GND}"
 );
 
-macro_rules! mismatch {
-    ($row:literal) => {
+// A report of the counts, of the rows in which y differs at a 0 and b 1, and of each row with the states of its first cycle.
+macro_rules! report {
+    ($counts:literal, [$($different:literal),+], [$($row:literal $power:literal $ground:literal),+]) => {
         concat!(
-            "mismatch start ",
-            $row,
-            " output y\n  cycle 1\n    supply VDD on\n    supply VSS on\n    in a 0\n    in b 1\n  rtl 0 net 1\n"
-        )
-    };
-}
-
-macro_rules! live {
-    ($row:literal, $power:literal, $ground:literal) => {
-        concat!(
-            "step start ",
-            $row,
-            " live\n  cycle 1\n    supply VDD ",
-            $power,
-            "\n    supply VSS ",
-            $ground,
-            "\n    in a 0\n    in b 0\n"
+            "powereq: mismatch\n",
+            $counts,
+            "\n",
+            $(
+                "mismatch start ",
+                $different,
+                " output y\n  cycle 1\n    supply VDD on\n    supply VSS on\n    in a 0\n    in b 1\n  rtl 0 net 1\n",
+            )+
+            $(
+                "step start ",
+                $row,
+                " live\n  cycle 1\n    supply VDD ",
+                $power,
+                "\n    supply VSS ",
+                $ground,
+                "\n    in a 0\n    in b 0\n"
+            ),+
         )
     };
 }
@@ -132,22 +133,19 @@ macro_rules! live {
 // By hand: OR2 in place of `a & b` differs where just one of a and b is 1, of which a 0 and b 1 comes first. It shows in each
 // row in which the domain can be on: in six of the eight, ANY among them, though its first cycle has VDD off. In DARK and
 // FLOATING the domain is off, the RTL's y corrupt, and each value refines it.
-const EIGHT: &str = concat!(
-    "powereq: mismatch\nobligations 8 refuted 2 mismatched 6 spent 0\n",
-    mismatch!("FULL"),
-    mismatch!("LOW"),
-    mismatch!("RAISED"),
-    mismatch!("ANY"),
-    mismatch!("LEAST"),
-    mismatch!("AGAIN"),
-    live!("FULL", "on", "on"),
-    live!("DARK", "off", "on"),
-    live!("LOW", "on", "on"),
-    live!("RAISED", "on", "on"),
-    live!("ANY", "off", "on"),
-    live!("FLOATING", "on", "off"),
-    live!("LEAST", "on", "on"),
-    live!("AGAIN", "on", "on")
+const EIGHT: &str = report!(
+    "obligations 8 refuted 2 mismatched 6 spent 0",
+    ["FULL", "LOW", "RAISED", "ANY", "LEAST", "AGAIN"],
+    [
+        "FULL" "on" "on",
+        "DARK" "off" "on",
+        "LOW" "on" "on",
+        "RAISED" "on" "on",
+        "ANY" "off" "on",
+        "FLOATING" "on" "off",
+        "LEAST" "on" "on",
+        "AGAIN" "on" "on"
+    ]
 );
 
 #[test]
