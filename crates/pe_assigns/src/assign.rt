@@ -1,10 +1,8 @@
 //! Ports, wires and assignments.
 
-ghost use Rattle.std.specs.Prelude.{◌≡◌, ◌∷◌, ◌++◌, length, IfOk, OnOk, MatchOption, [], None, Some, map};
-ghost use Rattle.std.specs.List.{flat_map, list_all};
+ghost use Rattle.std.specs.Prelude.{◌≡◌, ◌∷◌, MatchOption, [], None, Some};
 ghost use Rattle.std.specs.Option.{option_copied};
-ghost use Rattle.pe_verilog_ast.specs.declared.expression.Ex.{Ex as Expression};
-ghost use Rattle.pe_assigns.specs.Form.{is_input as is_input_dir, is_output as is_output_dir, is_plain, is_plain_port as is_plain_port_of, is_plain_item as is_plain_item_of, port_name as name_of_port, is_input_port as is_input_port_of, is_output_port as is_output_port_of, target_of, wires_in, assigns_in, is_some_of};
+ghost use Rattle.pe_assigns.specs.Form.{is_input as is_input_dir, is_output as is_output_dir, is_plain, is_plain_port as is_plain_port_of, is_plain_item as is_plain_item_of, port_name as name_of_port, is_input_port as is_input_port_of, is_output_port as is_output_port_of, target_of, wires_in, assigns_in};
 
 use crate::logic::is_whole;
 use pe_base::Name;

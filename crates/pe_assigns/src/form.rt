@@ -1,9 +1,9 @@
 //! Whether a tree is of the form.
 
-ghost use Rattle.std.specs.Prelude.{◌≡◌, ◌++◌, ◌&&◌, not, List, ℕ, IfOk};
+ghost use Rattle.std.specs.Prelude.{◌≡◌, ◌++◌, ◌&&◌, List, ℕ, IfOk};
 ghost use Rattle.pe_verilog_ast.specs.declared.expression.Ex.{Ex as Expression};
 ghost use Rattle.std.specs.List.{list_all};
-ghost use Rattle.pe_assigns.specs.Form.{is_plain_port as is_plain_port_of, is_plain_item as is_plain_item_of, is_some_of, input_names as input_names_of, assigns, assigns_in, are_ordered, is_driven_once, is_form, is_rtl_form};
+ghost use Rattle.pe_assigns.specs.Form.{is_plain_port as is_plain_port_of, is_plain_item as is_plain_item_of, input_names as input_names_of, assigns, assigns_in, are_ordered, is_driven_once, is_form, is_rtl_form};
 
 use crate::assign::{assign_of, is_plain_item, is_plain_port};
 use crate::logic::is_read;

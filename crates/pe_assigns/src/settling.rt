@@ -1,6 +1,6 @@
 //! The values of a module's nets.
 
-ghost use Rattle.std.specs.Prelude.{◌≡◌, ◌++◌, IfOk, OnOk, Bool, true, false, List, length, map, slice_set};
+ghost use Rattle.std.specs.Prelude.{◌≡◌, ◌++◌, IfOk, OnOk, Bool, true, List, length, map, slice_set};
 ghost use Rattle.std.specs.List.{flat_map};
 ghost use Rattle.pe_base.specs.declared.value.Val.{Val};
 ghost use Rattle.pe_verilog_ast.specs.declared.module.Module.{Module as Tree};

@@ -1,7 +1,7 @@
 -- The choice of a register's controls.
-use Rattle.std.proofs.Common.{◌≡◌, refl, sym, ap, ◌∙◌}
+use Rattle.std.proofs.Common.{◌≡◌, refl}
 use Rattle.pe_base.specs.declared.value.Val.{Val}
-use Rattle.pe_base.specs.declared.value.Val.TheVariants.{Zero, One, Corrupt}
+use Rattle.pe_base.specs.declared.value.Val.TheVariants.{Zero, One}
 use Rattle.pe_base.specs.Values.{pick_of}
 use Rattle.pe_base.proofs.Exact.{pick_same}
 use Rattle.pe_base.specs.declared.register.RegisterInputs.{RegisterInputs}

@@ -4,5 +4,4 @@ pub mod Words
 pub mod Gates
 pub mod Adder
 pub mod Registers
-pub mod Walk
 pub mod Names

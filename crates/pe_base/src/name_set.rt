@@ -1,7 +1,6 @@
 //! Sets of names, in which a look-up among a million takes no longer than some twenty comparisons.
 
-ghost use Rattle.std.specs.Prelude.{◌≡◌, ◌↔◌, ◌≤◌, ◌∷◌, [], not, IsTrue, IfOk, OnOk, OnErr, List, ℕ};
-ghost use Rattle.std.specs.List.{list_all};
+ghost use Rattle.std.specs.Prelude.{◌≡◌, ◌∷◌, [], not, IfOk, OnOk, OnErr, List, ℕ};
 ghost use Rattle.pe_base.specs.Names.{has_name, are_distinct, all_among, HasSameNames};
 
 use crate::name::Name;

@@ -1,7 +1,5 @@
 //! Places in a text, steps of a run, the five texts of a check, and want of memory.
 
-ghost use Rattle.std.specs.Prelude.{◌≡◌};
-
 use sqlite_items::Items;
 use std::alloc::{AllocError, AllocFailed};
 use thiserror::Error;

@@ -1,6 +1,6 @@
 //! Names as pins.
 
-ghost use Rattle.std.specs.Prelude.{◌≡◌, ◌≤◌, ℕ, None, Some, length, true, false, ◌⊎◌, MatchResult};
+ghost use Rattle.std.specs.Prelude.{◌≡◌, ℕ, None, Some, length, true, false, ◌⊎◌, MatchResult};
 ghost use Rattle.pe_text.specs.Cut.{AreInOrder};
 ghost use Rattle.pe_bool_expr.specs.declared.fault.ExprFault.TheVariants as fault;
 ghost use Rattle.pe_bool_expr.specs.Names.{is_known, first_unknown, pin_of as pin_is, pins_for};

@@ -1,6 +1,6 @@
 //! Whether a text is one of the grammar of its style, told without recursion, however deep it is nested.
 
-ghost use Rattle.std.specs.Prelude.{◌≡◌, ◌≢◌, ◌<◌, ◌^◌, ℕ, true, false, MatchOption, All};
+ghost use Rattle.std.specs.Prelude.{◌≡◌, ◌≢◌, ◌<◌, ◌^◌, true, false, MatchOption, All};
 ghost use Rattle.pe_grammar.specs.Derivation.{Derivation};
 ghost use Rattle.pe_grammar.specs.Grammar.{IsFault, Spells};
 ghost use Rattle.pe_bool_expr.specs.Scan.{begun, gone_on, behind, behind_operand};

@@ -1,7 +1,7 @@
 //! Reads the functions of a cell.
 
 ghost use Rattle.std.specs.Prelude.{◌≡◌, ◌≤◌, true, [], ◌∷◌, OnOk, IfOk, length};
-ghost use Rattle.pe_cells.specs.Functions.{is_short_group, is_short_text, is_short_attr, is_short_cell, are_short_cells, Reads, Judges, Says, IsUsed, use_of, use_if};
+ghost use Rattle.pe_cells.specs.Functions.{is_short_group, is_short_text, is_short_attr, is_short_cell, are_short_cells, Reads, Judges, IsUsed, use_of, use_if};
 
 use crate::form::{Found, add_if};
 use crate::looking::{place, text};

@@ -1,6 +1,6 @@
 //! The words that attributes of a cell may say, and the power and ground pins of a cell.
 
-ghost use Rattle.std.specs.Prelude.{◌≡◌, ◌++◌, [], cond, codes, OnOk, IfOk};
+ghost use Rattle.std.specs.Prelude.{◌≡◌, ◌++◌, OnOk, IfOk};
 ghost use Rattle.std.specs.Option.{option_copied};
 ghost use Rattle.pe_cells.specs.Kinds.{is_well_word as is_well_word_of, kind_of as kind_of_word, kind_in as kind_in_group, is_internal as is_internal_kind, is_well as is_well_kind, pgs_in, pgs_of, is_pg_pin as is_pg_pin_group, is_pin as is_pin_group, is_ff as is_ff_group, pg_named as pg_named_in, is_open as is_open_in};
 

@@ -1,10 +1,8 @@
 //! The names that the functions of a cell may have.
 
-ghost use Rattle.std.specs.Prelude.{◌≡◌, ◌++◌, OnOk, IfOk, true, cond};
-ghost use Rattle.std.specs.Option.{option_copied};
-ghost use Rattle.pe_cells.specs.Naming.{signal_names, signal_names_in, pg_word, pg_words, pin_names, state_names, all_names};
+ghost use Rattle.std.specs.Prelude.{◌≡◌, ◌++◌, OnOk, IfOk};
+ghost use Rattle.pe_cells.specs.Naming.{signal_names, pg_word, pg_words, pin_names, state_names, all_names};
 ghost use Rattle.pe_cells.specs.Kinds.{pgs_of};
-ghost use Rattle.pe_cells.specs.Form.{first_ff as first_ff_in};
 
 use crate::cell::Pg;
 use crate::form::first_ff;

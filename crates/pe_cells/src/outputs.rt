@@ -1,9 +1,7 @@
 //! The outputs of a cell.
 
-ghost use Rattle.std.specs.Prelude.{◌≡◌, ◌≤◌, ◌++◌, IfOk, IfSome, length};
-ghost use Rattle.pe_base.specs.Values.{exact_extension};
-ghost use Rattle.pe_bool_expr.specs.Functions.{pins_of, different, holds};
-ghost use Rattle.pe_cells.specs.Power.{is_zero};
+ghost use Rattle.std.specs.Prelude.{◌≡◌, ◌≤◌, IfOk, IfSome, length};
+ghost use Rattle.pe_bool_expr.specs.Functions.{pins_of, different};
 ghost use Rattle.pe_cells.specs.Output.{pg_values_of, pin_values_of, value_of, is_on_of, are_related_on, is_up_of, output_of};
 
 use crate::cell::{Pg, Signal};

@@ -2,10 +2,8 @@
 
 ghost use Rattle.std.specs.Prelude.{◌≡◌, true, [], Some, None, OnOk, IfOk};
 ghost use Rattle.std.specs.List.{list_all};
-ghost use Rattle.std.specs.Option.{option_copied};
 ghost use Rattle.pe_cells.specs.Form.{first_ff as first_ff_in};
 ghost use Rattle.pe_cells.specs.Functions.{is_short_group, Judges};
-ghost use Rattle.pe_cells.specs.Naming.{all_names, pin_names};
 ghost use Rattle.pe_cells.specs.Viewing.{clear_preset as clear_preset_of, IsRegisterOf, register_uses, register_with};
 
 use crate::cell::CellRegister;

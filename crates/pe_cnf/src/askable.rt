@@ -1,6 +1,6 @@
 //! Whether the cone of a goal can be asked for.
 
-ghost use Rattle.std.specs.Prelude.{◌≡◌, ◌↔◌, ◌<◌, IsTrue};
+ghost use Rattle.std.specs.Prelude.{◌↔◌, ◌<◌, IsTrue};
 ghost use Rattle.pe_graph.specs.Nodes.{IsIn};
 ghost use Rattle.pe_cnf.specs.Cone.{HasGoal, HasCited};
 

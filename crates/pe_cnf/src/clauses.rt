@@ -1,8 +1,7 @@
 //! The clauses of a question.
 
-ghost use Rattle.std.specs.Prelude.{◌≡◌, ◌≢◌, ℕ, ◌+◌, ◌<◌, ◌≤◌, ◌^◌, Bool, true, false, None, [], List, length, take, IfOk, EachIndex};
+ghost use Rattle.std.specs.Prelude.{◌≡◌, ◌≢◌, ℕ, ◌+◌, ◌<◌, ◌≤◌, Bool, true, None, [], List, length, take, IfOk};
 ghost use Rattle.std.specs.List.{concat};
-ghost use Rattle.pe_graph.specs.Literals.{var_of};
 ghost use Rattle.pe_graph.specs.declared.graph.Node.{Node};
 ghost use Rattle.pe_graph.specs.Nodes.{value_in, IsGraph};
 ghost use Rattle.pe_graph.specs.declared.job.Goal.{Goal as Asked};

@@ -3,7 +3,7 @@
 ghost use Rattle.std.specs.Prelude.{◌≡◌, ℕ, ◌+◌, ◌<◌, ◌≤◌, ◌^◌, ◌++◌, length, OnOk, EachIndex, true};
 ghost use Rattle.pe_graph.specs.Literals.{var_of};
 ghost use Rattle.pe_graph.specs.Nodes.{AreBelow};
-ghost use Rattle.pe_cnf.specs.Cone.{HasGoal, cites, literal_of, node_clauses, gate_clauses, goal_clauses, cited_clauses};
+ghost use Rattle.pe_cnf.specs.Cone.{cites, literal_of, node_clauses, gate_clauses, goal_clauses, cited_clauses};
 ghost use Rattle.pe_cnf.specs.Marks.{mark_of, entry_of};
 
 use crate::equality::Equality;

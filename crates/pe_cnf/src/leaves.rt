@@ -1,6 +1,6 @@
 //! The leaves of a cone, by their numbers.
 
-ghost use Rattle.std.specs.Prelude.{◌≡◌, ℕ, ◌+◌, ◌<◌, ◌≤◌, ◌^◌, length, IfOk, EachIndex};
+ghost use Rattle.std.specs.Prelude.{◌≡◌, ◌+◌, ◌<◌, ◌≤◌, ◌^◌, length, IfOk, EachIndex};
 ghost use Rattle.pe_cnf.specs.Cone.{AreLeaves, HasLeaves};
 ghost use Rattle.pe_cnf.specs.Marks.{mark_of, entry_of, IsLeafTable, IsListOf};
 

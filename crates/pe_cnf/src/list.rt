@@ -1,6 +1,6 @@
 //! Clauses that lie in one list.
 
-ghost use Rattle.std.specs.Prelude.{◌≡◌, ℕ, ◌+◌, ◌-◌, ◌<◌, ◌≤◌, ◌^◌, List, [], ◌∷◌, ◌++◌, length, OnOk, OnErr, slice_index, slice_range};
+ghost use Rattle.std.specs.Prelude.{◌≡◌, ℕ, ◌+◌, ◌-◌, ◌<◌, ◌≤◌, List, [], ◌∷◌, ◌++◌, length, OnOk, OnErr, slice_index, slice_range};
 ghost use Rattle.std.specs.List.{concat};
 ghost use Rattle.pe_cnf.specs.Clause.{clause_at};
 ghost use Rattle.pe_cnf.specs.Parts.{parts, start_from, Rise};

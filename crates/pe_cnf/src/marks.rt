@@ -1,6 +1,6 @@
 //! Which nodes are in a cone, and the number of the variable of each.
 
-ghost use Rattle.std.specs.Prelude.{◌≡◌, ℕ, ◌+◌, ◌<◌, ◌≤◌, ◌==◌, ◌||◌, ◌↔◌, Bool, true, ◌^◌, length, IfOk, EachIndex};
+ghost use Rattle.std.specs.Prelude.{◌≡◌, ℕ, ◌+◌, ◌<◌, ◌==◌, ◌||◌, ◌↔◌, true, ◌^◌, length, IfOk, EachIndex};
 ghost use Rattle.pe_graph.specs.Nodes.{AreBelow};
 ghost use Rattle.pe_cnf.specs.Cone.{InCone, HasGoal, cites, is_used};
 ghost use Rattle.pe_cnf.specs.Marks.{mark_of, entry_of, names, Spreads, AreNumbers};

@@ -4,7 +4,7 @@ ghost use Rattle.std.specs.Prelude.{◌≡◌, ◌++◌, [], IfOk, OnOk};
 ghost use Rattle.std.specs.List.{cons_option};
 ghost use Rattle.pe_grammar.specs.Derivation.{derivation, left, right, pair, nothing};
 ghost use Rattle.pe_grammar.specs.Grammar.{Derives};
-ghost use Rattle.pe_compare.specs.MapMeaning.{name_of, first_of, second_of, is_one, is_inverted, design_of, port_of, register_of, row_of, line_of, map_of};
+ghost use Rattle.pe_compare.specs.MapMeaning.{name_of, first_of, second_of, is_one, design_of, port_of, register_of, row_of, line_of, map_of};
 
 use crate::map::{MapFile, MapLine};
 use crate::map_table::{

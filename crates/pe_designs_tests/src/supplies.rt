@@ -10,7 +10,6 @@ use pe_bool_expr::{Expr, Style, parse};
 use pe_supply::{Level, Row, StepFault, Supplies, Switch, holds, steps};
 use sqlite_items::Items;
 use std::alloc::Global;
-use std::process::Abort;
 use std::test::Fail;
 
 fn names(alloc: Global, texts: &[&str]) -> Result<Items<Name>, Want> {

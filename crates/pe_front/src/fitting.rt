@@ -1,10 +1,9 @@
 //! Whether a netlist fits the rest of a design.
 
-ghost use Rattle.std.specs.Prelude.{◌≡◌, true, false, not, IfOk};
+ghost use Rattle.std.specs.Prelude.{◌≡◌, true, false, IfOk};
 ghost use Rattle.std.specs.Option.{option_map_or};
 ghost use Rattle.std.specs.Str.{bytes_eq};
 ghost use Rattle.pe_base.specs.Names.{are_distinct};
-ghost use Rattle.pe_assigns.specs.Form.{is_some_of};
 ghost use Rattle.pe_instances.specs.Fit.{is_fit as is_fit_of};
 ghost use Rattle.pe_intent.specs.Domain.{top_of};
 ghost use Rattle.pe_front.specs.Given.{is_fitting};

@@ -1,16 +1,14 @@
 //! The last points: the circuit, the design and its width.
 
-ghost use Rattle.std.specs.Prelude.{◌≡◌, ◌+◌, true, false, length, min, [], IfOk};
+ghost use Rattle.std.specs.Prelude.{◌≡◌, true, min, IfOk};
 ghost use Rattle.std.specs.List.{All};
 ghost use Rattle.pe_base.specs.Names.{are_distinct};
-ghost use Rattle.pe_supply.specs.Building.{IsBuilt};
 ghost use Rattle.pe_supply.specs.WellFormed.{IsWellFormed as IsSupplied};
 ghost use Rattle.pe_supply.specs.Steps.{told as told_number};
 ghost use Rattle.pe_cells.specs.WellFormed.{IsWellFormed as IsView};
 ghost use Rattle.pe_assigns.specs.Form.{is_form, input_names as input_names_of};
 ghost use Rattle.pe_intent.specs.Domain.{is_one_domain};
 ghost use Rattle.pe_instances.specs.Form.{used_cells as used_cells_of};
-ghost use Rattle.pe_instances.specs.Fit.{circuit_of};
 ghost use Rattle.pe_design.specs.Sound.{IsSound};
 ghost use Rattle.pe_front.specs.declared.fault.Part.TheVariants.{Net};
 ghost use Rattle.pe_front.specs.Points.{Answers, BuiltThen};

@@ -19,7 +19,7 @@ use crate::tree::{
     make_repeat, make_right,
 };
 use sqlite_items::Items;
-use std::alloc::{AllocError, Global};
+use std::alloc::Global;
 
 /// Reads one token of the kind.
 fn terminal(kind: u16, tokens: &[Token]) -> Result<(Tree, &[Token]), Stop>

@@ -1,4 +1,4 @@
-ghost use Rattle.std.specs.Prelude.{◌≡◌, [], map, IfOk};
+ghost use Rattle.std.specs.Prelude.{◌≡◌, map, IfOk};
 ghost use Rattle.pe_grammar.specs.Derivation.{derivation, leaf, nothing, pair, left as at_left, right as at_right, repeated, done, present, absent, once};
 
 use crate::terminal::Token;

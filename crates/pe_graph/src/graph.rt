@@ -1,6 +1,6 @@
 //! And-inverter graphs.
 
-ghost use Rattle.std.specs.Prelude.{◌≡◌, ◌≢◌, ℕ, Bool, not, ◌&&◌, ◌||◌, ◌<◌, ◌≤◌, ◌+◌, ◌^◌, ◌∷◌, [], IfOk, OnErr, IfSome, List, length, slice_index_or};
+ghost use Rattle.std.specs.Prelude.{◌≡◌, ◌≢◌, ℕ, not, ◌&&◌, ◌||◌, ◌<◌, ◌≤◌, ◌+◌, ◌^◌, ◌∷◌, [], IfOk, OnErr, List, length};
 ghost use Rattle.std.specs.Option.{SomeIff};
 ghost use Rattle.pe_graph.specs.declared.graph.Node.{Node};
 ghost use Rattle.pe_graph.specs.declared.graph.Node.TheVariants.{True};

@@ -1,6 +1,6 @@
 //! Obligations over a graph.
 
-ghost use Rattle.std.specs.Prelude.{◌≡◌, ◌↔◌, ◌<◌, ◌≤◌, ◌^◌, ℕ, All, IsTrue, IfOk, List, [], length};
+ghost use Rattle.std.specs.Prelude.{◌≡◌, ◌↔◌, ◌<◌, ◌≤◌, ◌^◌, ℕ, All, IsTrue, IfOk, [], length};
 ghost use Rattle.pe_graph.specs.Cone.{IsGoalIn, has_form, HasSmallCone, has_leaf};
 
 use crate::graph::Graph;

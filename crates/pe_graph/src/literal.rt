@@ -1,6 +1,6 @@
 //! Literals: a node of a graph, or its complement.
 
-ghost use Rattle.std.specs.Prelude.{◌≡◌, ◌↔◌, ◌<◌, ◌^◌, IsTrue};
+ghost use Rattle.std.specs.Prelude.{◌≡◌, ◌<◌, ◌^◌};
 ghost use Rattle.pe_graph.specs.Literals.{var_of, is_negated, complement_of, truth_of, lit_of};
 
 use std::marker::Model;

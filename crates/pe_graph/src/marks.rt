@@ -1,6 +1,6 @@
 //! Plain evaluation of a graph.
 
-ghost use Rattle.std.specs.Prelude.{◌≡◌, ℕ, ◌≤◌, ◌<◌, Bool, false, IfOk, length, slice_index_or};
+ghost use Rattle.std.specs.Prelude.{◌≡◌, ℕ, ◌≤◌, ◌<◌, false, IfOk, length, slice_index_or};
 ghost use Rattle.pe_graph.specs.Literals.{var_of};
 ghost use Rattle.pe_graph.specs.Nodes.{IsIn, AreBelow, value_in, lit_value, node_value};
 

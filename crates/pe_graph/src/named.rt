@@ -4,7 +4,7 @@ ghost use Rattle.std.specs.Prelude.{◌≡◌, All, IsTrue, length, map};
 ghost use Rattle.std.specs.Arc.{arc_value};
 ghost use Rattle.pe_graph.specs.Places.{is_live_name, is_live, step_has_place, point_has_place, leaf_has_place, pair_has_place, shadow_has_place, IsShownIn};
 
-use crate::job::{Job, Leaf};
+use crate::job::Job;
 use crate::literal::Lit;
 use pe_base::{Name, Step};
 use sqlite_items::Items;

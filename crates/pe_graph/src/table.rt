@@ -1,6 +1,6 @@
 //! Where a node stands among others, by a hash of what it is.
 
-ghost use Rattle.std.specs.Prelude.{◌≡◌, ◌≢◌, ℕ, ◌<◌, ◌≤◌, ◌+◌, [], length, OnOk, IfOk, IfSome, IfNone};
+ghost use Rattle.std.specs.Prelude.{◌≡◌, ◌≢◌, ℕ, ◌<◌, ◌+◌, [], length, OnOk, IfOk, IfSome, IfNone};
 ghost use Rattle.pe_graph.specs.Nodes.{node_at};
 ghost use Rattle.pe_graph.specs.Table.{bucket_of, mixed_of, IsLinked};
 

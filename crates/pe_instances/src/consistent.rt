@@ -1,6 +1,6 @@
 //! Whether the names of a netlist are consistent.
 
-ghost use Rattle.std.specs.Prelude.{◌≡◌, ◌++◌, map, IfOk, OnOk};
+ghost use Rattle.std.specs.Prelude.{◌≡◌, ◌++◌, IfOk, OnOk};
 ghost use Rattle.std.specs.List.{list_all, flat_map};
 ghost use Rattle.pe_instances.specs.Form.{pins as pins_of_instance, is_declared as is_declared_in, is_named as is_named_in, are_named_all as are_named_all_in, nets_on, are_connected as are_connected_in};
 

@@ -2,7 +2,6 @@
 
 ghost use Rattle.std.specs.Prelude.{◌≡◌, ◌==◌, ◌&&◌, not, IfOk};
 ghost use Rattle.std.specs.List.{list_all, list_any};
-ghost use Rattle.std.specs.Str.{bytes_eq};
 ghost use Rattle.pe_base.specs.Names.{has_name, HasSameNames};
 ghost use Rattle.pe_instances.specs.Fit.{names_in, has_one_port as has_one_port_of, are_root_ports as are_root_ports_of, are_same_ports as are_same_ports_of, are_apart as are_apart_from, is_fit as is_fit_of};
 

@@ -1,7 +1,7 @@
 //! The values of a circuit's nets.
 
-ghost use Rattle.std.specs.Prelude.{◌≡◌, ◌++◌, IfOk, OnOk, IfSome, Bool, true, List, length, map, slice_set};
-ghost use Rattle.std.specs.List.{All, flat_map};
+ghost use Rattle.std.specs.Prelude.{◌≡◌, ◌++◌, IfOk, OnOk, Bool, true, List, length, map, slice_set};
+ghost use Rattle.std.specs.List.{All};
 ghost use Rattle.pe_base.specs.Names.{are_distinct};
 ghost use Rattle.pe_base.specs.declared.value.Val.{Val};
 ghost use Rattle.pe_assigns.specs.Settled.{given_at};

@@ -5,7 +5,7 @@ ghost use Rattle.std.specs.List.{list_all};
 ghost use Rattle.pe_base.specs.Names.{HasSameNames};
 ghost use Rattle.pe_instances.specs.declared.parts.Instance.{Instance as Used};
 ghost use Rattle.pe_instances.specs.Pins.{net_driven as net_driven_by, net_list, nets_driven as nets_driven_by, targets as targets_of};
-ghost use Rattle.pe_instances.specs.Wired.{is_plain_cell as is_plain_view, is_joined as is_joined_to, supply_names as supply_names_of, known_with, are_ordered as are_ordered_from, is_driven_once as is_driven_once_in, are_given as are_given_in, is_wired as is_wired_circuit};
+ghost use Rattle.pe_instances.specs.Wired.{is_plain_cell as is_plain_view, supply_names as supply_names_of, known_with, are_ordered as are_ordered_from, is_driven_once as is_driven_once_in, are_given as are_given_in, is_wired as is_wired_circuit};
 
 use crate::joining::is_joined;
 use crate::names::{driven_names, nets};

@@ -1,6 +1,6 @@
 //! The places of different names.
 
-ghost use Rattle.std.specs.Prelude.{◌≡◌, ◌++◌, ◌∷◌, [], not, true, false, IfOk, OnOk, OnErr, MatchOption, length};
+ghost use Rattle.std.specs.Prelude.{◌≡◌, ◌++◌, ◌∷◌, [], not, true, false, IfOk, OnErr, MatchOption};
 ghost use Rattle.pe_base.specs.Names.{has_name, are_distinct, place_of};
 
 use indexmap::IndexSet;

@@ -12,7 +12,7 @@ use pe_base::{Val, Want};
 use pe_design::Design;
 use pe_nets::NameIndex;
 use sqlite_items::Items;
-use std::alloc::{AllocError, Global};
+use std::alloc::Global;
 
 /// An assignment, the states of the supplies under it, and the values of the nets of both sides.
 #[derive(Drop)]

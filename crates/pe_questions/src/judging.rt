@@ -3,8 +3,8 @@
 ghost use Rattle.std.specs.Prelude.{◌≡◌, ◌≢◌, ◌≤◌, true, List, IfOk, find, length};
 ghost use Rattle.std.specs.Option.{option_copied};
 ghost use Rattle.pe_nets.specs.Nets.{name_at};
-ghost use Rattle.pe_base.specs.Names.{place_of, are_distinct};
-ghost use Rattle.pe_assigns.specs.Form.{nets as nets_of, input_names as input_names_of, output_names as output_names_of};
+ghost use Rattle.pe_base.specs.Names.{are_distinct};
+ghost use Rattle.pe_assigns.specs.Form.{nets as nets_of, output_names as output_names_of};
 ghost use Rattle.pe_instances.specs.Form.{nets as net_nets_of};
 ghost use Rattle.pe_design.specs.declared.design.Design.{Design as Whole};
 ghost use Rattle.pe_design.specs.Sound.{IsSound};
@@ -12,9 +12,9 @@ ghost use Rattle.pe_design.specs.Refined.{Refined, Replays};
 ghost use Rattle.pe_questions.specs.declared.question.Question.{Question as Asked};
 ghost use Rattle.pe_questions.specs.declared.answer.Answer.{Answer as Told};
 ghost use Rattle.pe_questions.specs.Assignments.{width, all_assignments};
-ghost use Rattle.pe_questions.specs.Questions.{levels_of, levels_after, row_of, questions as questions_of};
+ghost use Rattle.pe_questions.specs.Questions.{row_of, questions as questions_of};
 ghost use Rattle.pe_questions.specs.Answers.{IsOutputAnswer, IsLiveAnswer, IsAnswer, AreAnswers, mismatched as mismatched_of};
-ghost use Rattle.pe_questions.specs.Cases.{AreCases, value_at, permits, refutes, told, sampled, is_refined, IsReplayed};
+ghost use Rattle.pe_questions.specs.Cases.{AreCases, value_at, permits, refutes, is_refined, IsReplayed};
 
 use crate::answer::Answer;
 use crate::cases::{Case, Places, case_of, cases};

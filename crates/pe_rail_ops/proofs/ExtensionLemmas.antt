@@ -1,8 +1,7 @@
 -- The exact extension, pin by pin.
-use Rattle.std.proofs.Common.{◌≡◌, ◌≢◌, ℕ, ◌+◌, ◌<◌, ◌==◌, eqb, Bool, true, false, ◌||◌, List, [], ◌∷◌, ◌++◌, length, drop, get_or, suc, refl, sym, ap, ◌∙◌, append_assoc, append-nil, take, ◌≤◌, arith, zero}
+use Rattle.std.proofs.Common.{◌≡◌, ◌≢◌, ℕ, ◌+◌, ◌<◌, eqb, Bool, true, false, ◌||◌, List, [], ◌∷◌, ◌++◌, length, drop, get_or, suc, refl, sym, ap, ◌∙◌, append_assoc, append-nil, take, ◌≤◌, arith, zero}
 use Rattle.std.specs.Prelude.{All, slice_index_or}
 use Rattle.std.proofs.lemmas.List.{length-map, length_push, drop_more, get_or-map, take-append-drop, take_all, take_at, drop_all, length-take}
-use Rattle.std.proofs.lemmas.List.Elements.{All-get_or}
 use Rattle.std.proofs.lemmas.List.Folds.{list_any-append}
 use Rattle.std.proofs.lemmas.Bool.{false≢true}
 use Rattle.pe_base.specs.declared.value.Val.{Val}
@@ -10,7 +9,7 @@ use Rattle.pe_base.specs.declared.value.Val.TheVariants.{Zero, One, Corrupt}
 use Rattle.pe_base.specs.Values.{known_of, merge_of, pick_of, merge_over, exact_extension}
 use Rattle.pe_base.proofs.Exact.{pick_same}
 use Rattle.pe_bool_expr.specs.declared.expr.Expr.{Expr}
-use Rattle.pe_bool_expr.specs.Functions.{Formula, formula, holds, pins_of, is_among, value_by}
+use Rattle.pe_bool_expr.specs.Functions.{formula, holds, pins_of, is_among}
 use Rattle.pe_bool_expr.proofs.Choosing.{same_value}
 use Rattle.pe_graph.specs.declared.graph.Node.{Node}
 use Rattle.pe_graph.proofs.Growth.{grows_on, grows_not}

@@ -1,6 +1,6 @@
 //! Addition and comparison of two bits on literals.
 
-ghost use Rattle.std.specs.Prelude.{◌≡◌, ◌&&◌, ◌||◌, Bool, IfOk, OnErr};
+ghost use Rattle.std.specs.Prelude.{◌&&◌, ◌||◌, IfOk, OnErr};
 ghost use Rattle.pe_base.specs.Adder.{sum_bit, less_bit};
 ghost use Rattle.pe_graph.specs.Nodes.{IsIn, value_in, Gives, Grows};
 ghost use Rattle.std.specs.Prelude.{false};

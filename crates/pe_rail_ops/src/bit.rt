@@ -1,7 +1,6 @@
 //! A value as two literals, and operators on one bit.
 
-ghost use Rattle.std.specs.Prelude.{◌≡◌, ℕ, Bool, cond, IfOk, OnErr, List};
-ghost use Rattle.pe_base.specs.declared.value.Val.TheVariants.{Corrupt};
+ghost use Rattle.std.specs.Prelude.{◌≡◌, ℕ, Bool, IfOk, OnErr, List};
 ghost use Rattle.pe_base.specs.Values.{known_of, pick_of};
 ghost use Rattle.pe_base.specs.Operators.{not_of, and_of, or_of, xor_of, xnor_of};
 ghost use Rattle.pe_base.specs.Registers.{kept_of};

@@ -1,25 +1,24 @@
 -- A text is read in one way, or refused in one way, and not both.
-use Rattle.std.proofs.Common.{◌≡◌, ◌≢◌, ◌⊎◌, ◌<◌, ◌≤◌, ◌+◌, ◌∙◌, ℕ, List, [], ◌∷◌, ◌++◌, length, take, drop, append_assoc, sym, ap, subst, inl, inr, refl, arith, slice_index_or}
+use Rattle.std.proofs.Common.{◌≡◌, ◌≢◌, ◌<◌, ◌≤◌, ◌+◌, ◌∙◌, ℕ, List, [], ◌∷◌, ◌++◌, length, take, drop, append_assoc, sym, ap, subst, inl, inr, refl, arith, slice_index_or}
 use Rattle.std.proofs.lemmas.Bool.{cases_order}
 use Rattle.std.proofs.lemmas.List.{get_or_default, take-append-drop, take-take}
 use Rattle.pe_grammar.specs.declared.form.Entry.{Entry}
 use Rattle.pe_grammar.specs.declared.terminal.Token.{Token as Terminal}
 use Rattle.pe_grammar.specs.Derivation.{Derivation}
-use Rattle.pe_grammar.specs.Grammar.{Spells, IsViable, IsFault}
+use Rattle.pe_grammar.specs.Grammar.{Spells, IsFault}
 use Rattle.pe_grammar.specs.Table.{IsDeterministic}
 use Rattle.pe_grammar.proofs.Theory.{unique}
 use Rattle.pe_text.specs.declared.fault.ReadFault.{ReadFault}
 use Rattle.pe_text.specs.declared.fault.ReadFault.TheVariants.{Memory, Syntax, Unsupported, Limit}
 use Rattle.pe_text.specs.declared.fault.Which.{Which}
-use Rattle.pe_text.specs.declared.fault.Which.TheVariants.{File}
 use Rattle.pe_text.specs.declared.language.Lang.{Lang}
 use Rattle.pe_text.specs.declared.token.Token.{Token}
 use Rattle.pe_text.specs.Cut.{IsCut, IsBadAt, AreInOrder}
 use Rattle.pe_text.specs.Language.{class_of}
 use Rattle.pe_text.specs.LeftOut.{first_left_out}
 use Rattle.pe_text.specs.Lexemes.{lexeme_of, lexemes_of}
-use Rattle.pe_text.specs.Limits.{first_over, number_over}
-use Rattle.pe_text.specs.Scan.{most_bytes, IsAllowed, IsScanned, IsLeftOut, IsOver, IsBadFault, IsLeftOutFault, IsOverFault, IsScanFault}
+use Rattle.pe_text.specs.Limits.{first_over}
+use Rattle.pe_text.specs.Scan.{most_bytes, IsAllowed, IsScanned, IsLeftOut, IsOver, IsBadFault, IsLeftOutFault, IsOverFault}
 use Rattle.pe_text.proofs.Order.{in_order}
 use Rattle.pe_text.proofs.Walking.{one_cut, not_both, one_bad}
 use Rattle.pe_reader.specs.Places.{byte_of}

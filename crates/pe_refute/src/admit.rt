@@ -1,10 +1,10 @@
 //! The check of entries.
 
-ghost use Rattle.std.specs.Prelude.{◌≡◌, ◌≤◌, ℕ, ◌^◌, ◌<◌, Option, None, Some, All, length, IfOk, MatchOption, MatchResult, map};
+ghost use Rattle.std.specs.Prelude.{◌≡◌, ◌<◌, Option, None, Some, All, length, IfOk, MatchOption, MatchResult, map};
 ghost use Rattle.std.specs.Arc.{arc_value};
 ghost use Rattle.pe_cnf.specs.Clause.{IsBelow, AllBelow};
 ghost use Rattle.pe_cnf.specs.Cone.{HasGoal, HasCited};
-ghost use Rattle.pe_cnf.specs.Meaning.{AreTrue, Holds, IsProved};
+ghost use Rattle.pe_cnf.specs.Meaning.{AreTrue, Holds};
 ghost use Rattle.pe_refute.specs.Chain.{clause_of};
 ghost use Rattle.pe_refute.specs.Evidence.{IsWithin};
 ghost use Rattle.pe_refute.specs.Entries.{seen_at, is_lawful, AreLawful, IsFirstUnlawful, cited_of, goal_of, AreSeenIn, IsJudged, IsAccepted, IsRefused};

@@ -1,6 +1,6 @@
 //! Which literals are known while a clause is checked.
 
-ghost use Rattle.std.specs.Prelude.{◌≡◌, ℕ, ◌<◌, ◌≤◌, ◌*◌, ◌^◌, length, IfOk, slice_index, EachIndex, false};
+ghost use Rattle.std.specs.Prelude.{◌≡◌, ℕ, ◌<◌, ◌≤◌, ◌*◌, length, IfOk, slice_index, EachIndex, false};
 ghost use Rattle.std.specs.List.{All};
 ghost use Rattle.pe_graph.specs.Literals.{var_of};
 ghost use Rattle.pe_refute.specs.Follow.{learned};

@@ -1,9 +1,9 @@
 //! Tables over the leaves of a cone.
 
-ghost use Rattle.std.specs.Prelude.{◌≡◌, ℕ, ◌+◌, ◌*◌, ◌<◌, ◌≤◌, ◌^◌, ◌↔◌, ◌||◌, ◌==◌, ⊤, Bool, true, false, IsTrue, is_some, length, take, not, MatchOption};
+ghost use Rattle.std.specs.Prelude.{◌≡◌, ℕ, ◌+◌, ◌*◌, ◌<◌, ◌≤◌, ◌^◌, ◌==◌, Bool, true, false, IsTrue, take, not, MatchOption};
 ghost use Rattle.pe_graph.specs.Literals.{var_of};
-ghost use Rattle.pe_cnf.specs.Clause.{AllBelow, Satisfies, literal_value};
-ghost use Rattle.pe_cnf.specs.Gates.{IsGated, gate_count, gate_start, has_value, output_of, left_of, right_of};
+ghost use Rattle.pe_cnf.specs.Clause.{Satisfies, literal_value};
+ghost use Rattle.pe_cnf.specs.Gates.{IsGated, gate_count};
 ghost use Rattle.pe_cnf.specs.Sound.{IsSound};
 ghost use Rattle.pe_refute.specs.Table.{IsTable, Assigns};
 ghost use Rattle.pe_refute.specs.Faults.{IsTableFault};

@@ -4,12 +4,12 @@
 //! unit, and a literal exactly where no hint's clause has it. So what is idle is found in one pass forward over the
 //! hints and one pass back.
 
-ghost use Rattle.std.specs.Prelude.{◌≡◌, ℕ, ◌+◌, ◌<◌, ◌≤◌, ◌↔◌, ◌||◌, ◌&&◌, Bool, List, length, IsTrue, IfOk, IfSome, IfNone};
+ghost use Rattle.std.specs.Prelude.{◌≡◌, ℕ, ◌<◌, ◌||◌, ◌&&◌, Bool, IfOk, IfSome, IfNone};
 ghost use Rattle.pe_cnf.specs.Clause.{AllBelow, IsBelow, has};
 ghost use Rattle.pe_refute.specs.Follow.{denied};
 ghost use Rattle.pe_refute.specs.Known.{knows_of};
 ghost use Rattle.pe_solver.specs.Walk.{Leads, Walks};
-ghost use Rattle.pe_solver.specs.Lean.{HasShape, IsTrace, Tight, mentions, IsDistinct, IsKnownPart, IsRefined};
+ghost use Rattle.pe_solver.specs.Lean.{HasShape, IsTrace, Tight, mentions, IsDistinct, IsRefined};
 
 use crate::finding::{Finding, Trace};
 use crate::store::Store;

@@ -1,6 +1,6 @@
 //! What is kept of what is learnt.
 
-ghost use Rattle.std.specs.Prelude.{◌≡◌, ℕ, ◌+◌, ◌<◌, ◌≤◌, ◌↔◌, List, length, IsTrue, IfOk};
+ghost use Rattle.std.specs.Prelude.{◌≡◌, ℕ, ◌<◌, ◌↔◌, List, IsTrue, IfOk};
 ghost use Rattle.pe_cnf.specs.Clause.{IsBelow, AllBelow};
 ghost use Rattle.pe_refute.specs.Follow.{Follows};
 ghost use Rattle.pe_refute.specs.Chain.{clause_of, hints_of};

@@ -5,7 +5,7 @@
 //! 1 side lead to a conflict from the prefix alone. So of the 2 ^ m prefixes of m leaves fewer than 2 ^ m clauses are
 //! kept.
 
-ghost use Rattle.std.specs.Prelude.{◌≡◌, ℕ, ◌+◌, ◌-◌, ◌<◌, ◌≤◌, List, [], ◌∷◌, ◌++◌, length, map, IfOk};
+ghost use Rattle.std.specs.Prelude.{◌≡◌, ℕ, ◌+◌, ◌-◌, ◌<◌, List, [], ◌∷◌, ◌++◌, length, IfOk};
 ghost use Rattle.pe_cnf.specs.Clause.{IsBelow, AllBelow};
 ghost use Rattle.pe_cnf.specs.Gates.{IsGated};
 ghost use Rattle.pe_refute.specs.Follow.{Follows};

@@ -1,6 +1,6 @@
 //! Whether a clause is there already, as a set of literals.
 
-ghost use Rattle.std.specs.Prelude.{◌≡◌, ℕ, ◌<◌, ◌≤◌, ◌↔◌, length, IsTrue, MatchOption, true};
+ghost use Rattle.std.specs.Prelude.{◌≡◌, ℕ, ◌<◌, ◌↔◌, length, IsTrue, MatchOption, true};
 ghost use Rattle.pe_cnf.specs.Clause.{has, clause_at, IsBelow};
 ghost use Rattle.pe_refute.specs.Known.{knows_of};
 ghost use Rattle.pe_solver.specs.Lean.{IsPart};

@@ -1,7 +1,6 @@
 //! Values of the leaves as a sample.
 
-ghost use Rattle.std.specs.Prelude.{◌≡◌, ℕ, ◌<◌, ◌≤◌, ◌^◌, length, IfOk};
-ghost use Rattle.pe_cnf.specs.ClauseSet.{ClauseSet};
+ghost use Rattle.std.specs.Prelude.{◌≡◌, ◌<◌, length, IfOk};
 ghost use Rattle.pe_solver.specs.Sample.{IsSpread, IsSample, AreBreaking, AreNumbered, AreBitsOf};
 ghost use Rattle.pe_solver.specs.Answer.{IsMade};
 

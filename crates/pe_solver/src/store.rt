@@ -1,6 +1,6 @@
 //! The clauses by their numbers: those given, and behind them those kept.
 
-ghost use Rattle.std.specs.Prelude.{◌≡◌, ℕ, ◌%◌, ◌<◌, List, [], ◌∷◌, ◌++◌, length, IfOk, OnOk, slice_index};
+ghost use Rattle.std.specs.Prelude.{◌≡◌, ℕ, ◌%◌, ◌<◌, List, [], ◌∷◌, ◌++◌, length, IfOk, OnOk};
 ghost use Rattle.pe_cnf.specs.Clause.{clause_at};
 ghost use Rattle.pe_solver.specs.Masks.{IsMask, AreMasks};
 

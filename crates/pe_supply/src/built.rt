@@ -1,7 +1,7 @@
 //! The supplies of an intent.
 
-ghost use Rattle.std.specs.Prelude.{◌≡◌, ◌≤◌, ◌⊎◌, length, map, List, ℕ, IfOk, IfErr, MatchResult, Result, Err};
-ghost use Rattle.std.specs.List.{All, AllZip};
+ghost use Rattle.std.specs.Prelude.{◌≡◌, ◌⊎◌, map, IfOk, IfErr, MatchResult, Result, Err};
+ghost use Rattle.std.specs.List.{AllZip};
 ghost use Rattle.pe_supply.specs.declared.fault.SupplyFault.{SupplyFault};
 ghost use Rattle.pe_supply.specs.declared.fault.SupplyFault.TheVariants as fault;
 ghost use Rattle.pe_supply.specs.declared.plan.Plan.{Plan};

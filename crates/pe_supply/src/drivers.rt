@@ -1,11 +1,11 @@
 //! What drives supplies, and which nets ports are on.
 
-ghost use Rattle.std.specs.Prelude.{◌≡◌, ℕ, ◌<◌, ◌≤◌, ◌&&◌, ◌||◌, true, false, not, length, map, filter, find, count_by, nat_lt, slice_get, IsTrue, IfOk, MatchOption, Some, List, []};
-ghost use Rattle.std.specs.List.{list_any, range_with_len, All};
-ghost use Rattle.std.specs.Option.{option_copied, option_map, option_map_or};
+ghost use Rattle.std.specs.Prelude.{◌≡◌, ℕ, ◌<◌, ◌&&◌, ◌||◌, true, false, not, filter, find, slice_get, IfOk, MatchOption, Some, []};
+ghost use Rattle.std.specs.List.{range_with_len, All};
+ghost use Rattle.std.specs.Option.{option_map_or};
 ghost use Rattle.std.specs.Str.{bytes_eq};
 ghost use Rattle.pe_base.specs.Names.{has_name, place_of};
-ghost use Rattle.pe_supply.specs.Drivers.{edge_of, edges_of, drives, is_driven_twice, is_root, first_elsewhere, next_of, IsLooped, IsFirstLooped};
+ghost use Rattle.pe_supply.specs.Drivers.{edge_of, edges_of, is_driven_twice, is_root, first_elsewhere, next_of, IsLooped, IsFirstLooped};
 ghost use Rattle.pe_supply.specs.Numbers.{number_of};
 
 use crate::numbers::number_of;

@@ -1,10 +1,10 @@
 //! The numbers of supplies: which names are one supply, and where it is first named.
 
-ghost use Rattle.std.specs.Prelude.{◌≡◌, ℕ, ◌^◌, ◌<◌, ◌≤◌, true, length, map, max, min, slice_index, IfOk, List, []};
+ghost use Rattle.std.specs.Prelude.{◌≡◌, ◌^◌, ◌<◌, true, length, map, max, min, slice_index, IfOk};
 ghost use Rattle.std.specs.List.{All, range_with_len};
 ghost use Rattle.pe_base.specs.Names.{has_name};
 ghost use Rattle.pe_supply.specs.Labels.{relabel, with_joined, AreApart, AreLabelled, AreFirst, AreCounted};
-ghost use Rattle.pe_supply.specs.Numbers.{with_new, distinct, names_in, numbers_in, AreNumbered, number_of, supply_count, first_name};
+ghost use Rattle.pe_supply.specs.Numbers.{distinct, names_in, numbers_in, AreNumbered, number_of, supply_count, first_name};
 
 use pe_base::{Name, NameSet, Want};
 use pe_nets::NameIndex;

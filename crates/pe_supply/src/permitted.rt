@@ -1,12 +1,12 @@
 //! The steps from row to row that a run may take.
 
-ghost use Rattle.std.specs.Prelude.{◌≡◌, ℕ, ◌<◌, ◌≤◌, List, ◌++◌, ◌∷◌, [], Ok, Err, Some, None, length, map, filter, find, IfOk, IfErr, OnOk, MatchOption};
+ghost use Rattle.std.specs.Prelude.{◌≡◌, ℕ, ◌<◌, List, ◌++◌, ◌∷◌, [], Ok, Err, Some, None, find, IfOk, OnOk};
 ghost use Rattle.std.specs.List.{range_with_len, flat_map};
 ghost use Rattle.std.specs.Option.{option_copied};
 ghost use Rattle.pe_base.specs.declared.text.Step.{Step};
 ghost use Rattle.pe_base.specs.declared.text.Step.TheVariants.{Start, Pair};
 ghost use Rattle.pe_supply.specs.declared.permitted.StepFault.TheVariants as fault;
-ghost use Rattle.pe_supply.specs.Steps.{name_of, may_start, is_pair, has_pair, may_follow, is_permitted, has_row, is_absent, first_absent, names_in, every_start, every_step_from, every_step, permitted, IsSteps, AreTooMany};
+ghost use Rattle.pe_supply.specs.Steps.{name_of, may_start, is_pair, has_pair, may_follow, is_permitted, has_row, is_absent, first_absent, names_in, every_start, every_step_from, permitted, IsSteps, AreTooMany};
 ghost use Rattle.pe_supply.specs.Gathering.{IsGathered, Offers};
 
 use crate::supplies::Row;

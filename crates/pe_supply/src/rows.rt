@@ -1,6 +1,6 @@
 //! Whether a row of the power state table holds.
 
-ghost use Rattle.std.specs.Prelude.{◌≡◌, slice_get};
+ghost use Rattle.std.specs.Prelude.{◌≡◌};
 ghost use Rattle.pe_supply.specs.Rows.{allows, is_on, row_holds};
 
 use crate::supplies::{Level, Row};

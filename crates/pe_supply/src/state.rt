@@ -1,13 +1,13 @@
 //! The states of supplies.
 
-ghost use Rattle.std.specs.Prelude.{◌≡◌, ℕ, ◌+◌, ◌<◌, ◌≤◌, Bool, List, length, IfOk, slice_index, map, take, drop};
+ghost use Rattle.std.specs.Prelude.{◌≡◌, ◌+◌, ◌<◌, ◌≤◌, Bool, List, length, IfOk, slice_index, map, take, drop};
 ghost use Rattle.pe_supply.specs.Rows.{is_on as is_on_at};
 ghost use Rattle.std.specs.List.{All, list_all};
 ghost use Rattle.pe_base.specs.declared.value.Val.{Val};
 ghost use Rattle.pe_bool_expr.specs.declared.expr.Expr.{Expr};
 ghost use Rattle.pe_supply.specs.declared.supplies.Supplies.{Supplies};
 ghost use Rattle.pe_supply.specs.States.{is_one as is_one_of, is_zero as is_zero_of, value_of, conducts, conducting, ports_of, state_of, IsSettled};
-ghost use Rattle.pe_supply.specs.WellFormed.{IsWellFormed, IsSmall, count_of, driver, place};
+ghost use Rattle.pe_supply.specs.WellFormed.{IsWellFormed, IsSmall, place};
 
 use crate::supplies::{Supplies, Switch};
 use pe_base::{Val, Want};

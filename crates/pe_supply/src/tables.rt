@@ -1,11 +1,11 @@
 //! The power state table and its rows.
 
-ghost use Rattle.std.specs.Prelude.{◌≡◌, length, map, find, IfOk, unwrap_or};
-ghost use Rattle.std.specs.List.{zip, flat_map};
+ghost use Rattle.std.specs.Prelude.{◌≡◌, map, find, IfOk, unwrap_or};
+ghost use Rattle.std.specs.List.{zip};
 ghost use Rattle.std.specs.Option.{option_copied, option_map};
 ghost use Rattle.pe_supply.specs.declared.supplies.Level.TheVariants.{Any};
 ghost use Rattle.pe_supply.specs.Numbers.{number_of};
-ghost use Rattle.pe_supply.specs.Tables.{columns, second_table, first_unlike, is_state, level_in, level_of, table_in, cells_of, is_unknown, first_unknown, row_in, set_in};
+ghost use Rattle.pe_supply.specs.Tables.{columns, second_table, first_unlike, is_state, level_in, level_of, table_in, is_unknown, first_unknown, row_in, set_in};
 
 use crate::numbers::number_of;
 use crate::plan::{PortState, RowText, SetText, TableText};

@@ -1,9 +1,9 @@
 -- The first lexeme that passes a test, step by step.
-use Rattle.std.proofs.Common.{◌≡◌, ℕ, ◌+◌, ◌<◌, ◌≤◌, suc, Bool, true, false, cond, List, [], ◌∷◌, length, drop, get_or, drop-cons, add-one, refl, sym, ap, arith, ◌∙◌}
+use Rattle.std.proofs.Common.{◌≡◌, ℕ, ◌+◌, ◌<◌, Bool, true, false, cond, List, length, drop, get_or, drop-cons, add-one, refl, ap, arith}
 use Rattle.std.specs.List.{slice_range}
 use Rattle.pe_text.specs.declared.token.Kind.{Kind}
 use Rattle.pe_text.specs.declared.token.Token.{Token}
-use Rattle.pe_text.specs.Lexemes.{Lexeme, lexeme_of, lexemes_of, first_in}
+use Rattle.pe_text.specs.Lexemes.{Lexeme, lexemes_of, first_in}
 
 -- the token at i is the first that passes the test, or the first is behind it
 pub first_at : {C : Type 0} (test : C → Kind → List ℕ → List Lexeme → Bool) (next : C → Kind → List ℕ → C) (c : C) (text : List ℕ) (tokens : List Token) (i : ℕ) (d : Token)

@@ -1,12 +1,12 @@
 -- Names that are added to a set, one list after the other.
-use Rattle.std.proofs.Common.{rules, ◌≡◌, ℕ, suc, ◌+◌, ◌<◌, ◌≤◌, ◌&&◌, ◌||◌, Bool, true, false, cond, not, List, [], ◌∷◌, ◌++◌, length, drop, get_or, drop-cons, add-one, append_assoc, append-nil, refl, sym, ap, ◌∙◌, arith}
+use Rattle.std.proofs.Common.{rules, ◌≡◌, ℕ, ◌+◌, ◌<◌, ◌≤◌, ◌||◌, Bool, true, false, cond, not, List, [], ◌∷◌, ◌++◌, length, drop, get_or, drop-cons, add-one, append_assoc, append-nil, refl, sym, ap, ◌∙◌, arith}
 use Rattle.std.specs.Prelude.{nat_lt, Option, Some, None}
 use Rattle.std.specs.List.{cons_option, slice_range}
 use Rattle.std.specs.Str.{bytes_eq}
 use Rattle.pe_base.specs.Names.{has_name, HasSameNames}
 use Rattle.pe_text.specs.declared.token.Token.{Token}
-use Rattle.pe_text.specs.Lexemes.{Lexeme, lexeme_of, lexemes_of}
-use Rattle.pe_text.specs.Inputs.{next_name, behind_next, names_from, names_of, names_in, inside, closes_last, braces_behind, new_count, with_names, input_count, Added}
+use Rattle.pe_text.specs.Lexemes.{lexemes_of}
+use Rattle.pe_text.specs.Inputs.{next_name, behind_next, names_from, names_of, names_in, inside, closes_last, braces_behind, new_count, with_names, Added}
 
 -- of two lists the new names are those of the first, and those of the second that the first does not have
 pub new_count-append : (seen xs ys : List (List ℕ)) → new_count seen (xs ++ ys) ≡ new_count seen xs + new_count (with_names seen xs) ys

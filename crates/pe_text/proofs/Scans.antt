@@ -1,8 +1,7 @@
 -- What a text shows before its grammar is tried: which answers exclude one another.
-use Rattle.std.proofs.Common.{◌≡◌, ◌<◌, ◌≤◌, ◌⊎◌, ◌∙◌, ℕ, List, [], ◌∷◌, length, sym, ap, subst, arith, Result, Ok, Err}
+use Rattle.std.proofs.Common.{◌≡◌, ◌<◌, ◌≤◌, ℕ, List, [], ◌∷◌, length, arith, Err}
 use Rattle.std.specs.List.{All}
 use Rattle.std.proofs.lemmas.List.Elements.{All-nil, All-cons}
-use Rattle.pe_text.specs.declared.language.Class.{Class}
 use Rattle.pe_text.specs.declared.language.Lang.{Lang}
 use Rattle.pe_text.specs.declared.token.Token.{Token}
 use Rattle.pe_text.specs.declared.fault.ReadFault.{ReadFault}
@@ -12,7 +11,7 @@ use Rattle.pe_text.specs.Cut.{IsCut, IsBadAt, AreInOrder}
 use Rattle.pe_text.specs.Lexemes.{IsPartOf, lexemes_of}
 use Rattle.pe_text.specs.LeftOut.{first_left_out}
 use Rattle.pe_text.specs.Limits.{first_over}
-use Rattle.pe_text.specs.Scan.{IsAllowed, IsScanned, IsLeftOut, IsOver, IsBadFault, IsLeftOutFault, IsOverFault, IsScanAnswer}
+use Rattle.pe_text.specs.Scan.{IsScanned, IsBadFault, IsLeftOutFault, IsOverFault, IsScanAnswer}
 
 -- spans in order do not go back
 order_end : (from end : ℕ) (tokens : List Token) → AreInOrder from end tokens → from ≤ end

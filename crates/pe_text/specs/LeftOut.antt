@@ -1,5 +1,5 @@
 -- The first word that is left out of a text of a language.
-use Rattle.std.specs.Prelude.{ℕ, Bool, true, false, List, length}
+use Rattle.std.specs.Prelude.{ℕ, true, false, List, length}
 use Rattle.pe_text.specs.declared.language.Lang.{Lang}
 use Rattle.pe_text.specs.declared.language.Lang.TheVariants as lang
 use Rattle.pe_text.specs.declared.verilog_left_out.Before.TheVariants.{Other}

@@ -1,6 +1,6 @@
 -- The first number of a text that is over its limit: how much is open at once, how many bits a number has, how many names an
 -- expression has.
-use Rattle.std.specs.Prelude.{ℕ, Bool, nat_le, min, List, length, if◌then◌else◌}
+use Rattle.std.specs.Prelude.{ℕ, nat_le, min, List, length, if◌then◌else◌}
 use Rattle.pe_text.specs.declared.language.Lang.{Lang}
 use Rattle.pe_text.specs.declared.language.Lang.TheVariants as lang
 use Rattle.pe_text.specs.declared.fault.Which.{Which}

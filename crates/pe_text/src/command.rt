@@ -1,8 +1,7 @@
 //! What the tokens before a place of a UPF text make of it, and the words that no text which is accepted has.
 
 ghost use Rattle.std.specs.Prelude.{◌≡◌, ◌+◌, ◌<◌, ◌^◌};
-ghost use Rattle.pe_base.specs.Names.{has_name};
-ghost use Rattle.pe_text.specs.Commands.{left_out_commands, left_out_options, ignored_commands, form_of, no_command, begun, behind_word, behind_other, behind_mark, behind_command, is_second, is_switch, is_ignored, is_option_left_out, is_word_left_out, is_mark_left_out, is_kind_left_out};
+ghost use Rattle.pe_text.specs.Commands.{form_of, no_command, begun, behind_word, behind_other, behind_mark, behind_command, is_second, is_switch, is_ignored, is_option_left_out, is_word_left_out, is_kind_left_out};
 
 use crate::among::is_among;
 use crate::token::Kind;

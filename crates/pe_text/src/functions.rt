@@ -2,7 +2,7 @@
 
 ghost use Rattle.std.specs.Prelude.{◌≡◌, codes};
 ghost use Rattle.pe_text.specs.Bytes.{is_one_of};
-ghost use Rattle.pe_text.specs.Functions.{is_space, has_index, behind_index, behind_input, liberty_function_start, behind_one, behind_twice, upf_function_start};
+ghost use Rattle.pe_text.specs.Functions.{is_space, behind_index, behind_input, liberty_function_start, behind_one, behind_twice, upf_function_start};
 ghost use Rattle.pe_text.specs.Opening.{start_of};
 
 use crate::bytes::{begins_name, has_first, is_digit};

@@ -1,6 +1,6 @@
 //! Expressions of switches in UPF that have too many names.
 
-ghost use Rattle.std.specs.Prelude.{◌≡◌, ◌+◌, ◌≤◌, ◌<◌, ◌^◌, ℕ, List, [], nat_lt, length, option_map, IfOk};
+ghost use Rattle.std.specs.Prelude.{◌≡◌, ◌+◌, ◌≤◌, ◌<◌, ◌^◌, [], nat_lt, length, option_map, IfOk};
 ghost use Rattle.std.specs.List.{All, cons_option};
 ghost use Rattle.pe_text.specs.Lexemes.{IsPartOf, lexemes_of};
 ghost use Rattle.pe_text.specs.Inputs.{next_name, behind_next, names_of, Added, most_inputs, input_count, closes_last, braces_behind, opens_expression, first_too_many};

@@ -1,6 +1,6 @@
 //! The first word that is left out of a text.
 
-ghost use Rattle.std.specs.Prelude.{◌≡◌, ◌≤◌, ℕ, length, Bool};
+ghost use Rattle.std.specs.Prelude.{◌≡◌, ◌≤◌, length};
 ghost use Rattle.std.specs.List.{All};
 ghost use Rattle.pe_text.specs.Lexemes.{IsPartOf, lexemes_of, first_in};
 ghost use Rattle.pe_text.specs.LeftOut.{first_left_out};

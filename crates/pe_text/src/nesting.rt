@@ -2,9 +2,8 @@
 
 ghost use Rattle.std.specs.Prelude.{◌≡◌, ◌+◌, ◌<◌, ◌≤◌, ◌^◌, length};
 ghost use Rattle.std.specs.List.{All};
-ghost use Rattle.pe_base.specs.Names.{has_name};
 ghost use Rattle.pe_text.specs.Lexemes.{IsPartOf, lexemes_of};
-ghost use Rattle.pe_text.specs.Nesting.{openers, closers, enders, operators, counted, none_open, is_pending, pending_behind, run_behind, behind_verilog, behind_liberty, behind_upf, behind_bytes, open_at, first_too_deep};
+ghost use Rattle.pe_text.specs.Nesting.{counted, none_open, is_pending, pending_behind, run_behind, behind_verilog, behind_liberty, behind_upf, behind_bytes, first_too_deep};
 
 use crate::among::is_among;
 use crate::language::Lang;

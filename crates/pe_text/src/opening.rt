@@ -1,7 +1,7 @@
 //! What starts at a place of a text, and the forms that several languages have.
 
 ghost use Rattle.std.specs.Prelude.{◌≡◌};
-ghost use Rattle.pe_text.specs.Start.{or_else, gap_to, closed, quoted};
+ghost use Rattle.pe_text.specs.Start.{or_else, gap_to, quoted};
 ghost use Rattle.pe_text.specs.Opening.{start_of};
 
 use crate::run::Run;

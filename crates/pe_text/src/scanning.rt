@@ -1,6 +1,6 @@
 //! What a text shows before its grammar is tried.
 
-ghost use Rattle.std.specs.Prelude.{◌≡◌, ◌≤◌, ℕ, List, length, OnOk, IfOk, IfErr};
+ghost use Rattle.std.specs.Prelude.{◌≡◌, ◌≤◌, List, length, OnOk, IfOk, IfErr};
 ghost use Rattle.std.specs.List.{All};
 ghost use Rattle.pe_text.specs.Language.{class_of};
 ghost use Rattle.pe_text.specs.Cut.{IsCut};

@@ -1,8 +1,7 @@
 //! Words, numbers and marks of Verilog that no text which is accepted has.
 
 ghost use Rattle.std.specs.Prelude.{◌≡◌};
-ghost use Rattle.pe_base.specs.Names.{has_name};
-ghost use Rattle.pe_text.specs.VerilogLeftOut.{verilog_words, rtl_words, netlist_words, verilog_marks, is_word_left_out, is_signed, is_mark_left_out, is_kind_left_out, may_be_star, is_at, behind_verilog};
+ghost use Rattle.pe_text.specs.VerilogLeftOut.{is_word_left_out, is_signed, is_mark_left_out, is_kind_left_out, behind_verilog};
 ghost use Rattle.pe_text.specs.Bytes.{has_first};
 
 use crate::among::is_among;

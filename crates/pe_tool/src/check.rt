@@ -8,7 +8,7 @@ ghost use Rattle.pe_tool.specs.declared.check.Plain.{Plain as Told};
 ghost use Rattle.pe_tool.specs.Equivalent.{IsReported};
 ghost use Rattle.pe_tool.specs.Outcome.{IsOutcome, IsSame};
 
-use pe_base::{Texts, Want};
+use pe_base::Texts;
 use pe_design::Design;
 use pe_front::{CheckFault, design, one_design};
 use pe_questions::{Answer, Question, answers, questions};

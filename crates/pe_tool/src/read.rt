@@ -1,16 +1,15 @@
 //! The reading of the five files.
 
-ghost use Rattle.std.specs.Prelude.{◌≡◌, ◌≤◌, ◌<◌, ℕ, List, IfOk, IfErr, IfSome, Option, MatchResult, length};
+ghost use Rattle.std.specs.Prelude.{◌≡◌, ◌≤◌, ◌<◌, ℕ, List, IfOk, IfErr, IfSome, length};
 ghost use Rattle.pe_base.specs.declared.text.Texts.{Texts};
-ghost use Rattle.pe_outside.specs.Outside.{HasRisen};
 ghost use Rattle.pe_text.specs.Scan.{most_bytes};
-ghost use Rattle.pe_tool.specs.Run.{FileNames, AreTold, name_list, IsOneOf};
+ghost use Rattle.pe_tool.specs.Run.{AreTold, name_list};
 ghost use Rattle.pe_tool.specs.Reads.{StandsFor, StandFor, IsReadStop, names_view, IsStopped};
 
 use pe_base::{Texts, Want};
 use pe_outside::{Files, WholeFault, read_whole};
 use sqlite_items::Items;
-use std::alloc::{AllocError, AllocFailed, Global};
+use std::alloc::Global;
 
 // The names of the five files.
 #[derive(Clone, Copy)]

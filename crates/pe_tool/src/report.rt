@@ -5,8 +5,7 @@ ghost use Rattle.pe_nets.specs.Nets.{name_at};
 ghost use Rattle.pe_assigns.specs.Form.{input_names, output_names};
 ghost use Rattle.pe_design.specs.declared.design.Design.{Design as Whole};
 ghost use Rattle.pe_questions.specs.Assignments.{roots_of, inputs_of};
-ghost use Rattle.pe_questions.specs.Answers.{mismatched as mismatched_of};
-ghost use Rattle.pe_tool.specs.Report.{is_held, held, two_words, on_word, bit_word, value_word, row_names, step_words, point_name, first_name, supply_lines, input_lines, sample, values_line, block, step_block, blocks_by, verdict_line, counts_of, counts_line, report, read_fault, usage, report_status};
+ghost use Rattle.pe_tool.specs.Report.{is_held, held, two_words, on_word, bit_word, value_word, row_names, step_words, point_name, first_name, supply_lines, input_lines, sample, block, step_block, blocks_by, verdict_line, counts_of, counts_line, report, read_fault, usage, report_status};
 
 use crate::refusals::add;
 use pe_base::{Name, Step, Val, Want};

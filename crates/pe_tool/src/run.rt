@@ -1,15 +1,15 @@
 //! The top call: words in, status out, over files and an output.
 
-ghost use Rattle.std.specs.Prelude.{◌≡◌, ◌≢◌, ◌⊎◌, ℕ, List, map, IfOk, Option, Some, None, string_bytes};
+ghost use Rattle.std.specs.Prelude.{◌≡◌, ◌≢◌, ◌⊎◌, map, IfOk, Some, None, string_bytes};
 ghost use Rattle.pe_base.specs.declared.text.Texts.{Texts};
-ghost use Rattle.pe_outside.specs.Outside.{HasRisen, grown, GrowsByPrefix};
+ghost use Rattle.pe_outside.specs.Outside.{HasRisen, grown};
 ghost use Rattle.pe_design.specs.declared.design.Design.{Design as Whole};
 ghost use Rattle.pe_design.specs.Refined.{Refined};
 ghost use Rattle.pe_front.specs.Given.{IsDesign};
 ghost use Rattle.pe_tool.specs.Equivalent.{IsEquivalent, HasMismatch};
 ghost use Rattle.pe_tool.specs.Report.{usage};
 ghost use Rattle.pe_tool.specs.Run.{FileNames, AreTold, NoneRose, OfTexts, IsRefusedRun, IsUnreadRun, IsSaidRun, IsJudgedRun, words_of, names_of, name_list};
-ghost use Rattle.pe_tool.specs.Said.{Says, IsJudged, IsSaid};
+ghost use Rattle.pe_tool.specs.Said.{IsJudged, IsSaid};
 
 use crate::check::check_design;
 use crate::read::{ReadStop, read_texts};

@@ -7,8 +7,8 @@ use crate::show_expression::{show, show_list, show_name, show_select};
 use pe_base::Name;
 use pe_text::Lang;
 use pe_verilog_ast::{
-    Arm, Dir, Edge, Event, Ex, HeadPort, Item, Module, NetKind, Param, Pins, Port, Range, Source,
-    Stmt, Target,
+    Arm, Dir, Edge, Event, Ex, HeadPort, Item, Module, NetKind, Param, Pins, Port, Range, Stmt,
+    Target,
 };
 use pe_verilog_read::read_verilog;
 use std::alloc::{AllocError, Global};

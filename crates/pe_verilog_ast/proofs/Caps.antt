@@ -1,5 +1,5 @@
 -- Sums and products of numbers of which only what fits 64 bits is known.
-use Rattle.std.proofs.Common.{◌≡◌, ℕ, zero, suc, ◌+◌, ◌*◌, ◌-◌, ◌^◌, ◌≤◌, ◌<◌, max, min, ap, sym, refl, ◌∙◌, arith, mul_comm, mul-le-mul_left}
+use Rattle.std.proofs.Common.{◌≡◌, ℕ, zero, suc, ◌+◌, ◌*◌, ◌-◌, ◌^◌, ◌≤◌, ◌<◌, max, ap, refl, ◌∙◌, arith, mul_comm, mul-le-mul_left}
 use Rattle.pe_verilog_ast.specs.Weights.{capped}
 
 pub capped_add : (n m c d : ℕ) → c ≡ capped n → d ≡ capped m → capped (c + d) ≡ capped (n + m)

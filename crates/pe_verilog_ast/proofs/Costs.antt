@@ -1,5 +1,5 @@
 -- What operators cost, from what their operands cost.
-use Rattle.std.proofs.Common.{◌≡◌, ℕ, List, zero, suc, ◌+◌, ◌*◌, ◌≤◌, max, min, ap, sym, refl, ◌∙◌, arith}
+use Rattle.std.proofs.Common.{◌≡◌, ℕ, List, ◌+◌, ◌*◌, ◌≤◌, max, ap, sym, ◌∙◌, arith}
 use Rattle.pe_verilog_ast.specs.declared.cost.Cost.{Cost}
 use Rattle.pe_verilog_ast.specs.declared.family.Family.{Family}
 use Rattle.pe_verilog_ast.specs.Weights.{Sized, Step, capped, chained, grouped, sized_as, combined, complemented, chosen, alone_weight}

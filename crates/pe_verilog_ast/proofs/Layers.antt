@@ -1,12 +1,12 @@
 -- The size and the weight of an expression, by its variant.
-use Rattle.std.proofs.Common.{◌≡◌, ℕ, ◌+◌, List, [], ◌∷◌, length, sym, refl, ap, ◌∙◌}
+use Rattle.std.proofs.Common.{◌≡◌, ℕ, List, sym, ap, ◌∙◌}
 use Rattle.std.specs.Prelude.{map}
 use Rattle.pe_verilog_ast.specs.declared.number.Digit.{Digit}
 use Rattle.pe_verilog_ast.specs.declared.operator.UnOp.{UnOp}
 use Rattle.pe_verilog_ast.specs.declared.expression.Ex.{Ex, fold-Ex, fold-roll-Ex}
 use Rattle.pe_verilog_ast.specs.declared.expression.Ex.TheVariants as ex
 use Rattle.pe_verilog_ast.specs.declared.expression.Ex.TheOpen as layer
-use Rattle.pe_verilog_ast.specs.declared.expression.Operand.{Operand, fold-Operand, fold_out-Operand}
+use Rattle.pe_verilog_ast.specs.declared.expression.Operand.{Operand, fold_out-Operand}
 use Rattle.pe_verilog_ast.specs.declared.expression.Select.{Select, fold-Select, fold-roll-Select}
 use Rattle.pe_verilog_ast.specs.declared.expression.Select.TheVariants as select
 use Rattle.pe_verilog_ast.specs.Weights.{Sized, Step, Bits, number, net_size, selected, joined, repeated, applied, grouped, chosen, layer_of, step_layer, bits_layer, sized, step, bits, whole, bit, part}

@@ -1,12 +1,11 @@
 -- One more digit, and one more operand of a chain.
-use Rattle.std.proofs.Common.{◌≡◌, ℕ, suc, ◌+◌, ◌*◌, ◌<◌, Bool, false, List, [], ◌∷◌, length, get_or, drop, drop-cons, add-one, sym, refl, ap, ◌∙◌}
+use Rattle.std.proofs.Common.{◌≡◌, ℕ, suc, ◌+◌, ◌*◌, ◌<◌, false, List, ◌∷◌, length, get_or, drop, drop-cons, add-one, sym, refl, ap, ◌∙◌}
 use Rattle.std.specs.Prelude.{map, slice_index_or}
 use Rattle.pe_verilog_ast.specs.declared.number.Digit.TheVariants.{Zero}
 use Rattle.pe_verilog_ast.specs.declared.number.Digit.{Digit}
-use Rattle.pe_verilog_ast.specs.declared.expression.Ex.{Ex}
 use Rattle.pe_verilog_ast.specs.declared.expression.Operand.{Operand}
 use Rattle.pe_verilog_ast.specs.Sizes.{family_of}
-use Rattle.pe_verilog_ast.specs.Weights.{Sized, Step, capped, bit_of, number_of, combined, chained, grouped, selected, applied, whole, bit, part, Bits, sized, step}
+use Rattle.pe_verilog_ast.specs.Weights.{Sized, Step, capped, bit_of, number_of, combined, chained, selected, applied, whole, bit, part, Bits, sized, step}
 use Rattle.pe_verilog_ast.specs.declared.cost.Cost.{Cost}
 use Rattle.pe_verilog_ast.specs.declared.operator.UnOp.{UnOp}
 use Rattle.pe_verilog_ast.specs.declared.operator.UnOp.TheVariants as un

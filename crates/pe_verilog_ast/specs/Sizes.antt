@@ -1,5 +1,5 @@
 -- The sizes that operators give and ask for, and what a node of theirs weighs.
-use Rattle.std.specs.Prelude.{ℕ, ◌+◌, ◌*◌, max}
+use Rattle.std.specs.Prelude.{ℕ, ◌*◌, max}
 use Rattle.pe_verilog_ast.specs.declared.operator.BinOp.{BinOp}
 use Rattle.pe_verilog_ast.specs.declared.operator.BinOp.TheVariants as op
 use Rattle.pe_verilog_ast.specs.declared.family.Family.{Family}

@@ -1,6 +1,6 @@
 //! The size of an expression, and its weight: how much its value takes to be worked out.
 
-ghost use Rattle.std.specs.Prelude.{◌≡◌, ◌+◌, ◌-◌, ◌*◌, ◌^◌, ◌≤◌, ◌<◌, min, map, length, slice_index_or, ℕ, List};
+ghost use Rattle.std.specs.Prelude.{◌≡◌, ◌-◌, ◌*◌, ◌^◌, ◌≤◌, ◌<◌, min, map, length, slice_index_or, ℕ, List};
 ghost use Rattle.pe_verilog_ast.specs.declared.number.Digit.{Digit};
 ghost use Rattle.pe_verilog_ast.specs.Weights.{Sized, capped, bit_of, number_of, net_size, part_size, selected, total_size, total_weight, chained, sized, step, bits, own_size, weight_in};
 ghost use Rattle.pe_verilog_ast.specs.Costs.{IsCost};

@@ -1,6 +1,6 @@
 //! From derivations to the events of blocks.
 
-ghost use Rattle.std.specs.Prelude.{◌≡◌, map, IfOk};
+ghost use Rattle.std.specs.Prelude.{◌≡◌, IfOk};
 ghost use Rattle.pe_grammar.specs.Derivation.{derivation};
 ghost use Rattle.pe_grammar.specs.Grammar.{Derives};
 ghost use Rattle.pe_verilog_read.specs.Lists.{list_by};

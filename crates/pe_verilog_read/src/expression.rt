@@ -6,7 +6,7 @@ ghost use Rattle.pe_grammar.specs.Grammar.{Derives};
 ghost use Rattle.pe_grammar.specs.Places.{first_at, second_at, IsSequenceAt};
 ghost use Rattle.pe_verilog_ast.specs.declared.expression.Ex.TheVariants.{Number, Unary, Choose, Repeat};
 ghost use Rattle.pe_verilog_read.specs.Copies.{IsCopy, IsRung};
-ghost use Rattle.pe_verilog_read.specs.Expressions.{ex_of, left_of, right_of, level_of, operands_of, chained, primary_of, braces_of, inner_of, list_of, others_of, simple_of, named_of, select_of, upto_of, selected};
+ghost use Rattle.pe_verilog_read.specs.Expressions.{ex_of, left_of, right_of, level_of, chained, primary_of, braces_of, inner_of, list_of, others_of, simple_of, named_of, select_of, upto_of, selected};
 ghost use Rattle.pe_verilog_read.specs.Numbers.{digits_of};
 ghost use Rattle.pe_verilog_read.specs.Words.{word_at};
 

@@ -1,7 +1,7 @@
 //! Numbers: from their bytes to their bits.
 
-ghost use Rattle.std.specs.Prelude.{◌≡◌, ◌<◌, ◌≤◌, ◌+◌, ◌%◌, ◌^◌, ◌++◌, ◌==◌, replicate, length, position, slice_index_or, IfOk, OnOk, MatchOption};
-ghost use Rattle.pe_verilog_read.specs.Numbers.{bit_of, bits_of, grown_of, value_of, is_unknown as unknown_is, digit_value as value_of_digit, digit_bits, digits_bits, fill_of, fitted, is_decimal as decimal_is, width_of, based as based_of, size_of, digits_of};
+ghost use Rattle.std.specs.Prelude.{◌≡◌, ◌<◌, ◌≤◌, ◌+◌, ◌%◌, ◌^◌, ◌++◌, ◌==◌, replicate, position, slice_index_or, IfOk, OnOk, MatchOption};
+ghost use Rattle.pe_verilog_read.specs.Numbers.{bit_of, bits_of, grown_of, value_of, is_unknown as unknown_is, digit_value as value_of_digit, digit_bits, digits_bits, fill_of, fitted, width_of, based as based_of, size_of, digits_of};
 ghost use Rattle.pe_verilog_read.specs.Terminals.{is_skipped as skipped_is};
 
 use pe_verilog_ast::Digit;

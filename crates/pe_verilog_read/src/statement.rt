@@ -5,7 +5,7 @@ ghost use Rattle.pe_grammar.specs.Derivation.{derivation};
 ghost use Rattle.pe_grammar.specs.Grammar.{Derives};
 ghost use Rattle.pe_verilog_read.specs.Arms.{AreArms, labels_at};
 ghost use Rattle.pe_verilog_read.specs.Expressions.{list_of};
-ghost use Rattle.pe_verilog_read.specs.Statements.{assignment_of, statement_of, block_of, label_of, test_of, otherwise_of, cases_of, arms_of, arm_of, labelled_of, default_of, is_blocking};
+ghost use Rattle.pe_verilog_read.specs.Statements.{assignment_of, statement_of, block_of, label_of, test_of, otherwise_of, cases_of, arms_of, arm_of, labelled_of, default_of};
 ghost use Rattle.pe_verilog_read.specs.Words.{word_at};
 
 use crate::leaf::leaf;

@@ -3,7 +3,7 @@
 ghost use Rattle.std.specs.Prelude.{◌≡◌, IfOk};
 ghost use Rattle.pe_grammar.specs.Derivation.{derivation};
 ghost use Rattle.pe_grammar.specs.Grammar.{Derives};
-ghost use Rattle.pe_verilog_read.specs.Expressions.{ex_of, left_of, right_of, list_of, named_of, select_of, group_of, selection_of};
+ghost use Rattle.pe_verilog_read.specs.Expressions.{ex_of, list_of, named_of, group_of, selection_of};
 ghost use Rattle.pe_verilog_read.specs.Words.{word_at};
 ghost use Rattle.pe_verilog_read.specs.Targets.{range_of, optional_range_of};
 
@@ -11,7 +11,7 @@ use crate::expression::{make_ex, make_list, make_named, make_select, make_sides}
 use crate::rules::{constant, label, whole};
 use crate::verilog_table::{
     AT_EX, AT_GROUP, AT_GROUP_2, AT_LABEL_LIST, AT_LIST, AT_OPERAND_PART_2_PART_2, AT_PORT_PART_3,
-    AT_RANGE, AT_RANGE_2, AT_SELECT, AT_SIDES, AT_SIMPLE_OPERAND_PART_2, VERILOG,
+    AT_RANGE, AT_RANGE_2, AT_SIMPLE_OPERAND_PART_2, VERILOG,
 };
 use pe_grammar::{Tree, parts, side};
 use pe_text::Token;

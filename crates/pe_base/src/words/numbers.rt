@@ -4,7 +4,7 @@ ghost use Rattle.std.specs.Prelude.{◌≡◌, ◌+◌, ◌==◌, true, IfOk, le
 ghost use Rattle.pe_base.specs.declared.value.Val.TheVariants.{Corrupt};
 ghost use Rattle.pe_base.specs.Values.{known_of};
 ghost use Rattle.pe_base.specs.Adder.{sum_bit, carry_bit, less_bit};
-ghost use Rattle.pe_base.specs.Words.{all_known, is_one, one_if, value_number, number_bits, bits_of};
+ghost use Rattle.pe_base.specs.Words.{all_known, is_one, one_if, value_number, number_bits};
 ghost use Rattle.pe_base.specs.Words.{add_of, subtract_of, less_of, less_equal_of, greater_of, greater_equal_of};
 
 use crate::text::Want;

@@ -1,6 +1,6 @@
 //! Shifts, and a bit by its index.
 
-ghost use Rattle.std.specs.Prelude.{◌≡◌, ◌<◌, ◌^◌, min, IfOk, IfNone, length};
+ghost use Rattle.std.specs.Prelude.{◌≡◌, ◌<◌, ◌^◌, min, IfOk};
 ghost use Rattle.pe_base.specs.Words.{all_known, value_number, shift_left_of, shift_right_of, picked_bit};
 
 use crate::text::Want;

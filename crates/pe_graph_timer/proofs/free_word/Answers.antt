@@ -1,4 +1,3 @@
-use Rattle.std.proofs.Common.{◌≡◌, ◌≤◌, ◌∙◌, arith}
 use Rattle.pe_graph_timer.proofs.FreeWords.{no_word, word_more}
 use Rattle.pe_graph_timer.proofs.free_word.Goals as goal
 

@@ -1,4 +1,3 @@
-use Rattle.std.proofs.Common.{◌∙◌}
 use Rattle.pe_base.proofs.RegisterLemmas.{chosen_is}
 use Rattle.pe_base.proofs.register.chosen.Goals as goal
 

@@ -1,4 +1,3 @@
-use Rattle.std.proofs.Common.{◌≡◌, ◌≤◌, ◌∙◌, arith}
 use Rattle.pe_evidence_tests.proofs.KnownWords.{no_word, word_more}
 use Rattle.pe_evidence_tests.proofs.words.known_word.Goals as goal
 

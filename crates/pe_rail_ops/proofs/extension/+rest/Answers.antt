@@ -1,5 +1,5 @@
-use Rattle.std.proofs.Common.{◌≡◌, ◌-◌, ◌<◌, ◌≤◌, ◌++◌, ◌∷◌, [], length, take, arith, sym, ap, ◌∙◌}
-use Rattle.std.proofs.lemmas.List.{length_push, take_at}
+use Rattle.std.proofs.Common.{◌≡◌, ◌-◌, ◌<◌, ◌≤◌, ◌++◌, ◌∷◌, [], length, arith, ap, ◌∙◌}
+use Rattle.std.proofs.lemmas.List.{length_push}
 use Rattle.pe_base.specs.declared.value.Val.TheVariants.{Zero, One}
 use Rattle.pe_bool_expr.specs.Functions.{holds}
 use Rattle.pe_rail_ops.proofs.Rails.{rails_kept}

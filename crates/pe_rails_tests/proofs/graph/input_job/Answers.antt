@@ -1,4 +1,4 @@
-use Rattle.std.proofs.Common.{◌≡◌, ◌∷◌, [], ◌≤◌, length, refl, ap, arith}
+use Rattle.std.proofs.Common.{◌≡◌, ◌∷◌, [], length, refl, ap, arith}
 use Rattle.pe_graph.specs.declared.graph.Node.TheVariants.{True, Leaf}
 use Rattle.pe_rails_tests.proofs.SmallJob.{two_nodes, one_leaf, small_goals}
 use Rattle.pe_rails_tests.proofs.graph.input_job.Goals as goal

@@ -1,4 +1,4 @@
-use Rattle.std.proofs.Common.{◌≡◌, ◌+◌, ◌-◌, ◌≤◌, ℕ, List, [], ◌++◌, length, refl, arith}
+use Rattle.std.proofs.Common.{◌≡◌, ◌+◌, ◌-◌, [], arith}
 use Rattle.std.specs.List.{cons_option}
 use Rattle.pe_text.specs.Inputs.{next_name, behind_next, names_of, names_from, Added}
 use Rattle.pe_text.proofs.InputNames.{names_step, found_more}

@@ -1,10 +1,10 @@
 use Rattle.std.specs.Prelude.{codes}
 use Rattle.std.specs.Str.{bytes_eq}
-use Rattle.std.proofs.Common.{◌≡◌, ◌+◌, ◌-◌, cond, ◌<◌, ◌≤◌, ℕ, length, Bool, true, false, List, [], ◌∷◌, ◌++◌, sym, ap, ◌∙◌, refl, arith, get_or, drop}
+use Rattle.std.proofs.Common.{◌≡◌, ◌+◌, ◌-◌, cond, ◌≤◌, ℕ, Bool, true, false, List, [], ◌++◌, sym, ◌∙◌, arith, drop}
 use Rattle.pe_text.specs.declared.token.Token.{Token}
 use Rattle.pe_text.specs.declared.token.Kind.TheVariants.{Word}
 use Rattle.pe_text.specs.Lexemes.{lexemes_of}
-use Rattle.pe_text.specs.Inputs.{names_of, names_in, inside, closes_last, braces_behind, Added}
+use Rattle.pe_text.specs.Inputs.{names_of, names_in, inside, closes_last, braces_behind}
 use Rattle.pe_text.proofs.InputNames.{inside_step, inside_end, found_more, too_many, not_too_many}
 use Rattle.pe_text.proofs.inputs.has_too_many.Goals as goal
 

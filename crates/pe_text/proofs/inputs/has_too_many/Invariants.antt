@@ -1,4 +1,4 @@
-use Rattle.std.proofs.Common.{◌≡◌, ◌≤◌, ◌+◌, ℕ, List, [], length, drop, ◌++◌}
+use Rattle.std.proofs.Common.{◌≡◌, ◌≤◌, ◌+◌, ℕ, List, [], drop, ◌++◌}
 use Rattle.pe_text.specs.Lexemes.{lexemes_of}
 use Rattle.pe_text.specs.Inputs.{names_in, inside, Added}
 use Rattle.pe_text.proofs.inputs.has_too_many.Given as goal

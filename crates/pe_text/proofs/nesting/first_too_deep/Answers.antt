@@ -1,13 +1,12 @@
-use Rattle.std.proofs.Common.{rules, ◌≡◌, ◌+◌, ◌<◌, ◌≤◌, length, ℕ, Bool, true, false, cond, List, [], ◌∷◌, sym, arith, refl, get_or, drop}
+use Rattle.std.proofs.Common.{rules, ◌≡◌, ◌+◌, ◌≤◌, ℕ, Bool, true, false, cond, List, sym, arith}
 use Rattle.std.specs.Prelude.{nat_lt}
 use Rattle.pe_text.specs.declared.language.Lang.{Lang}
 use Rattle.pe_text.specs.declared.language.Lang.TheVariants.{Rtl, Netlist, Upf, Liberty, Map}
 use Rattle.pe_text.specs.declared.nesting.Nest.{Nest}
 use Rattle.pe_text.specs.declared.token.Token.{Token}
 use Rattle.pe_text.specs.declared.token.Kind.TheVariants.{Word}
-use Rattle.pe_text.specs.Lexemes.{lexemes_of}
 use Rattle.pe_base.specs.Names.{has_name}
-use Rattle.pe_text.specs.Nesting.{operators, behind_bytes, run_behind, open_at, is_too_deep, nest_behind}
+use Rattle.pe_text.specs.Nesting.{operators, behind_bytes, open_at, is_too_deep, nest_behind}
 use Rattle.pe_text.proofs.Firsts.{first_behind}
 use Rattle.pe_text.proofs.nesting.first_too_deep.Goals as goal
 

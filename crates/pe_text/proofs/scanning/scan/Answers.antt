@@ -1,4 +1,4 @@
-use Rattle.std.proofs.Common.{◌≡◌, ◌∙◌}
+use Rattle.std.proofs.Common.{◌∙◌}
 use Rattle.pe_text.specs.Language.{class_of}
 use Rattle.pe_text.proofs.Scans.{bad_only, left_out_only, over_only}
 use Rattle.pe_text.proofs.scanning.scan.Goals as goal

@@ -1,4 +1,4 @@
-use Rattle.std.proofs.Common.{◌≡◌, length}
+use Rattle.std.proofs.Common.{length}
 use Rattle.pe_text.specs.Language.{class_of}
 use Rattle.pe_text.proofs.Scans.{in_order_parts}
 use Rattle.pe_text.proofs.scanning.tokens_of.Goals as goal

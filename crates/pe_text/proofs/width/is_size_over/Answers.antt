@@ -1,5 +1,5 @@
-use Rattle.std.proofs.Common.{rules, ◌≡◌, ◌≢◌, ◌<◌, ◌+◌, suc, ℕ, length, Bool, true, false, cond, List, [], ◌∷◌, get_or, drop, drop-cons, add-one, eqb, refl, sym, ap, ◌∙◌}
-use Rattle.pe_text.specs.Width.{grown_of, is_size_over, Stands}
+use Rattle.std.proofs.Common.{rules, ◌≡◌, ◌<◌, ◌+◌, ℕ, length, true, false, List, get_or, drop, drop-cons, add-one, eqb, refl, ◌∙◌}
+use Rattle.pe_text.specs.Width.{grown_of, is_size_over}
 use Rattle.pe_text.proofs.width.is_size_over.Goals as goal
 
 -- behind a byte that is no quote

@@ -1,4 +1,4 @@
-use Rattle.std.proofs.Common.{◌≡◌, ◌+◌, ◌∙◌, refl, arith}
+use Rattle.std.proofs.Common.{◌≡◌, ◌+◌, arith}
 use Rattle.pe_verilog_ast.specs.Weights.{capped, alone_weight}
 use Rattle.pe_verilog_ast.proofs.Costs.{one_bit}
 use Rattle.pe_verilog_ast.proofs.cost.reduce.Goals as goal

@@ -1,7 +1,7 @@
-use Rattle.std.proofs.Common.{◌≡◌, ℕ, ◌+◌, ◌*◌, Bool, true, false, cond, ap, sym, refl, ◌∙◌, arith}
+use Rattle.std.proofs.Common.{◌≡◌, ◌+◌, ◌*◌, Bool, true, false, cond, ap, sym, refl, ◌∙◌, arith}
 use Rattle.std.specs.Prelude.{map}
 use Rattle.pe_verilog_ast.specs.declared.expression.Ex.{Ex}
-use Rattle.pe_verilog_ast.specs.Weights.{Sized, capped, alone_weight, number, part_size, selected, whole, bit, part, total_size, total_weight, joined, repeated, applied, grouped, chosen, sized, step, bits}
+use Rattle.pe_verilog_ast.specs.Weights.{capped, alone_weight, number, part_size, selected, whole, bit, part, total_size, total_weight, joined, repeated, applied, grouped, chosen, sized, step, bits}
 use Rattle.pe_verilog_ast.specs.Costs.{IsCost}
 use Rattle.pe_verilog_ast.proofs.Caps.{capped_mul}
 use Rattle.pe_verilog_ast.proofs.Layers.{sized-Number, sized-Net, sized-Join, sized-Repeat, sized-Unary, sized-Chain, sized-Choose, bits-Whole, bits-Bit, bits-Part}

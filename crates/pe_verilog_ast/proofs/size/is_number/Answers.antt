@@ -1,4 +1,4 @@
-use Rattle.std.proofs.Common.{◌≡◌, ◌∙◌, sym, ap}
+use Rattle.std.proofs.Common.{◌∙◌, sym, ap}
 use Rattle.pe_verilog_ast.specs.Weights.{Sized, sized}
 use Rattle.pe_verilog_ast.proofs.Steps.{selected_number, applied_number}
 use Rattle.pe_verilog_ast.proofs.Layers.{sized-Number, sized-Net, sized-Join, sized-Repeat, sized-Unary, sized-Chain, sized-Choose}

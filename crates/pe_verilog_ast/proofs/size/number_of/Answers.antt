@@ -1,4 +1,4 @@
-use Rattle.std.proofs.Common.{◌≡◌, ◌≤◌, refl, arith}
+use Rattle.std.proofs.Common.{arith}
 use Rattle.pe_verilog_ast.proofs.Steps.{number_step}
 use Rattle.pe_verilog_ast.proofs.size.number_of.Goals as goal
 

@@ -1,5 +1,5 @@
-use Rattle.std.proofs.Common.{◌≡◌, ◌∙◌, max, ap, refl, arith}
-use Rattle.pe_verilog_ast.specs.Weights.{capped, sized}
+use Rattle.std.proofs.Common.{◌∙◌, max, arith}
+use Rattle.pe_verilog_ast.specs.Weights.{sized}
 use Rattle.pe_verilog_ast.proofs.Caps.{capped_max}
 use Rattle.pe_verilog_ast.proofs.Costs.{weight_at}
 use Rattle.pe_verilog_ast.proofs.size.weight.Goals as goal

@@ -1,4 +1,4 @@
-use Rattle.std.proofs.Common.{◌≡◌, ◌≤◌, length, arith, ◌∙◌}
+use Rattle.std.proofs.Common.{◌≤◌, length, arith, ◌∙◌}
 use Rattle.std.proofs.lemmas.List.{take_all}
 use Rattle.pe_base.proofs.Pairs.{take-each_pair, length-each_pair}
 use Rattle.pe_base.specs.Words.{each_pair}

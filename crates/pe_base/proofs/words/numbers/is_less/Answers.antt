@@ -1,6 +1,6 @@
-use Rattle.std.proofs.Common.{◌≡◌, ◌<◌, ◌++◌, ◌∷◌, [], length, get_or, take, refl, sym, ap, ◌∙◌, arith}
+use Rattle.std.proofs.Common.{◌<◌, length, get_or, take, sym, ◌∙◌}
 use Rattle.std.specs.Prelude.{map}
-use Rattle.pe_base.specs.Words.{is_one, number_of}
+use Rattle.pe_base.specs.Words.{is_one}
 use Rattle.pe_base.proofs.Numbers.{less_more, bits_more, length-bits}
 use Rattle.pe_base.proofs.words.numbers.is_less.Goals as goal
 

@@ -1,4 +1,4 @@
-use Rattle.std.proofs.Common.{◌≡◌, true, length, ◌∙◌, sym, ap, refl}
+use Rattle.std.proofs.Common.{◌≡◌, true, length, ◌∙◌, ap}
 use Rattle.pe_base.specs.Words.{all_known, number_bits}
 use Rattle.pe_base.proofs.Numbers.{difference}
 use Rattle.pe_base.proofs.words.numbers.subtract.Goals as goal

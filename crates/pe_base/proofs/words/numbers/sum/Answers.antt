@@ -1,9 +1,9 @@
-use Rattle.std.proofs.Common.{◌≡◌, ◌<◌, ◌≤◌, ◌++◌, ◌∷◌, [], length, get_or, take, refl, sym, ap, ◌∙◌, arith}
+use Rattle.std.proofs.Common.{◌<◌, length, refl, sym, ap, ◌∙◌}
 use Rattle.std.specs.Prelude.{map}
 use Rattle.std.proofs.lemmas.List.{take_all, length-map}
 use Rattle.pe_base.specs.Values.{known_of}
-use Rattle.pe_base.specs.Words.{is_one, number_of}
-use Rattle.pe_base.proofs.Numbers.{IsSum, sum_more, sum_all, bits_more, length-bits}
+use Rattle.pe_base.specs.Words.{is_one}
+use Rattle.pe_base.proofs.Numbers.{sum_more, sum_all, bits_more, length-bits}
 use Rattle.pe_base.proofs.words.numbers.sum.Goals as goal
 
 pub loop-i-preserved : goal.loop-i-preserved
