@@ -3,6 +3,7 @@ pub mod Idle
 pub mod Walks
 pub mod Parted
 pub mod MaskLemmas
+pub mod LinkLemmas
 pub mod Growth
 pub mod Settled
 pub mod Enumerate

@@ -35,15 +35,20 @@ bool_same true b p q = sym (p refl)
 bool_same false true p q = q refl
 bool_same false false p q = refl
 
--- clauses of the same literals have the same mask
+-- clauses of the same literals have the same bits
+same_bits : (c d : List ℕ) (i : ℕ) → AreSame c d → has_bit c i ≡ has_bit d i
+same_bits c d i s = bool_same (has_bit c i) (has_bit d i) (has_part c d i (λ l t. sym (s l) ∙ t)) (has_part d c i (λ l t. s l ∙ t))
+
+-- so a mask of one is a mask of the other
+pub mask_of_same : (c d : List ℕ) (m : ℕ) → AreSame c d → IsMask d m → IsMask c m
+mask_of_same c d m s p = record { small = p.small; bits = λ i h. p.bits i h ∙ ap (λ t. cond t 1 0) (sym (same_bits c d i s)) }
+
+-- and there is only one
 pub same_mask : (c d : List ℕ) (a b : ℕ) → AreSame c d → IsMask c a → IsMask d b → a ≡ b
 same_mask c d a b s p q =
-    same_from_bits_below 64 a b p.small q.small (λ i h.
-    p.bits i h ∙
-    ap (λ t. cond t 1 0) (bool_same (has_bit c i) (has_bit d i) (has_part c d i (λ l t. sym (s l) ∙ t)) (has_part d c i (λ l t. s l ∙ t))) ∙
-    sym (q.bits i h))
+    same_from_bits_below 64 a b p.small q.small (λ i h. p.bits i h ∙ ap (λ t. cond t 1 0) (same_bits c d i s) ∙ sym (q.bits i h))
 
-eq_or_not : (a b : ℕ) → (a ≡ b) ⊎ (a ≢ b)
+pub eq_or_not : (a b : ℕ) → (a ≡ b) ⊎ (a ≢ b)
 eq_or_not a b = grind arith
 
 neq_test : (a b : ℕ) → a ≢ b → (a == b) ≡ false
@@ -76,7 +81,7 @@ mask_next c i x m n lt e is s =
           ];
     }
 
-lt_or_eq : (i n : ℕ) → i < n + 1 → (i < n) ⊎ (i ≡ n)
+pub lt_or_eq : (i n : ℕ) → i < n + 1 → (i < n) ⊎ (i ≡ n)
 lt_or_eq i n h = grind arith
 
 pub masks_none : AreMasks [] []

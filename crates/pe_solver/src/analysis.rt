@@ -1,7 +1,7 @@
 //! What is to be learnt from a conflict.
 //!
 //! The clause is the one of the first unique implication point (Marques-Silva and Sakallah, GRASP, 1996; Zhang and
-//! others, 2001), without the literals that follow from its others by one reason (Sorensson and Biere, 2009). Its hints
+//! others, 2001), without the literals that follow from its others by reasons (Sorensson and Biere, 2009). Its hints
 //! are the reasons that lead from its negation to the conflict, in the order of the trail.
 
 use crate::arena::Arena;
@@ -53,6 +53,15 @@ impl Analysis {
         let hints = self.hints(arena, trail, &clause, conflict)?;
         self.clear();
         choice.end_conflict();
+        Ok(Lesson { clause, hints })
+    }
+
+    /// What is learnt of a literal of level 0: that it is true.
+    pub fn settled(&mut self, arena: &Arena, trail: &Trail, l: u32) -> Result<Lesson, Want> {
+        let mut clause = Vec::new(self.alloc);
+        clause.push(l)?;
+        let hints = self.hints(arena, trail, &clause, trail.reason_of(l / 2))?;
+        self.clear();
         Ok(Lesson { clause, hints })
     }
 
@@ -145,29 +154,87 @@ impl Analysis {
     }
 
     // The clause without those of its literals, but the last, that follow from its others.
-    fn shortened(&self, arena: &Arena, trail: &Trail, clause: &[u32]) -> Result<Vec<u32>, Want> {
+    fn shortened(
+        &mut self,
+        arena: &Arena,
+        trail: &Trail,
+        clause: &[u32],
+    ) -> Result<Vec<u32>, Want> {
+        self.clear();
+        for l in clause {
+            self.meet(*l / 2)?;
+        }
+        let levels = level_bits(trail, clause);
         let mut short = Vec::new(self.alloc);
         for (i, l) in clause.iter().enumerate() {
-            if i.wrapping_add(1) == clause.len() || !self.is_redundant(arena, trail, *l) {
+            let is_last = i.wrapping_add(1) == clause.len();
+            if is_last || !self.is_redundant(arena, trail, *l, levels)? {
                 short.push(*l)?;
             }
         }
         Ok(short)
     }
 
-    // Whether all others of the literal's reason were met, or hold at level 0.
-    fn is_redundant(&self, arena: &Arena, trail: &Trail, l: u32) -> bool {
+    // Whether the literal follows from those that were met: all ways back from it along reasons come to one of these, or
+    // to level 0. Then what lies between counts as met too.
+    fn is_redundant(
+        &mut self,
+        arena: &Arena,
+        trail: &Trail,
+        l: u32,
+        levels: u64,
+    ) -> Result<bool, Want> {
+        let before = self.to_clear.len();
+        self.stack.clear();
+        self.stack.push(l)?;
+        for _ in 0..u64::MAX {
+            match self.stack.pop() {
+                None => break,
+                Some(m) => {
+                    if !self.goes_back(arena, trail, m, levels)? {
+                        self.forget(before);
+                        return Ok(false);
+                    }
+                }
+            }
+        }
+        Ok(true)
+    }
+
+    // Goes back from the literal to those of its reason that were not met, and meets them. False where it has no reason,
+    // or one of them can't lead back to literals of the levels whose bits are given.
+    fn goes_back(
+        &mut self,
+        arena: &Arena,
+        trail: &Trail,
+        l: u32,
+        levels: u64,
+    ) -> Result<bool, Want> {
         let reason = trail.reason_of(l / 2);
         if reason == NO_REASON {
-            return false;
+            return Ok(false);
         }
         for i in arena.start(reason)..arena.end(reason) {
             let m = arena.literal(i);
-            if m / 2 != l / 2 && trail.level_of(m) > 0 && !self.has_met(m / 2) {
-                return false;
+            let level = trail.level_of(m);
+            if level > 0 && !self.has_met(m / 2) {
+                if levels & level_bit(level) == 0 {
+                    return Ok(false);
+                }
+                self.meet(m / 2)?;
+                self.stack.push(m)?;
             }
         }
-        true
+        Ok(true)
+    }
+
+    // The variables that were met behind the first `count` ones count as not met.
+    fn forget(&mut self, count: usize) {
+        for i in count..self.to_clear.len() {
+            let v = read(&self.to_clear, i, 0);
+            write(&mut self.met, v as usize, false);
+        }
+        self.to_clear.truncate(count);
     }
 
     // The reasons between the clause's literals and the conflict, in the order of the trail, and the conflict.
@@ -217,10 +284,27 @@ impl Analysis {
         Ok(spots)
     }
 
+    // The literals of the clause that were not met go onto the stack.
     fn push_literals(&mut self, arena: &Arena, id: u32) -> Result<(), Want> {
         for i in arena.start(id)..arena.end(id) {
-            self.stack.push(arena.literal(i))?;
+            let l = arena.literal(i);
+            if !self.has_met(l / 2) {
+                self.stack.push(l)?;
+            }
         }
         Ok(())
     }
+}
+
+// A bit for each level of the clause's literals; levels share bits.
+fn level_bits(trail: &Trail, clause: &[u32]) -> u64 {
+    let mut bits: u64 = 0;
+    for l in clause {
+        bits |= level_bit(trail.level_of(*l));
+    }
+    bits
+}
+
+fn level_bit(level: u32) -> u64 {
+    1u64 << (level % 64)
 }

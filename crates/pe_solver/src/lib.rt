@@ -9,6 +9,7 @@ mod finding;
 mod heap;
 mod lean;
 mod lessons;
+mod links;
 mod luby;
 mod outcome;
 mod prefixes;

@@ -11,7 +11,8 @@ use crate::store::{Store, mask_of};
 use pe_graph::Lit;
 use pe_refute::Scratch;
 
-/// The number of a clause with the same literals.
+/// The number of a clause with the same literals. Its mask is the same, so only the clauses whose masks have the same
+/// remainder are looked at, from the last to the first.
 #[inline(never)]
 pub fn find_same(all: &Store, clause: &[Lit], scratch: &mut Scratch) -> Option<u64>
     requires { IsBelow scratch.old.vars clause.now }
@@ -21,7 +22,9 @@ pub fn find_same(all: &Store, clause: &[Lit], scratch: &mut Scratch) -> Option<u
     scratch.begin();
     mark_all(clause, scratch);
     let mask = mask_of(clause);
-    for id in 0..all.count() {
+    let mut above = all.last(mask);
+    while above > 0 {
+        let id = above - 1;
         if all.mask(id) == mask {
             let other = all.clause(id);
             if all_known(other, scratch) {
@@ -30,6 +33,7 @@ pub fn find_same(all: &Store, clause: &[Lit], scratch: &mut Scratch) -> Option<u
                 }
             }
         }
+        above = all.before(id);
     }
     None
 }

@@ -7,7 +7,7 @@ use crate::analysis::{Analysis, Lesson};
 use crate::arena::Arena;
 use crate::choice::{Choice, go_back};
 use crate::luby::luby;
-use crate::safe::{read, write};
+use crate::safe::{read, small, write};
 use crate::trail::{Trail, Value};
 use crate::watches::Watches;
 use pe_base::Want;
@@ -18,7 +18,7 @@ use std::alloc::Global;
 const ROUND: u64 = 100;
 
 // After so many conflicts, and a few more each time, clauses are put to sleep.
-const FIRST_SLEEP: u64 = 2000;
+const FIRST_SLEEP: u64 = 1000;
 
 const MORE_SLEEP: u64 = 300;
 
@@ -27,6 +27,9 @@ const FEW_LEVELS: u32 = 2;
 
 // Clauses over more levels count as of this many.
 const MANY_LEVELS: u32 = 63;
+
+// A literal of level 0 that takes more hints than this gets a clause of its own.
+const MOST_HINTS: u32 = 8;
 
 /// The most variables that a search may have.
 pub const MOST_VARS: u64 = 0x1fff_ffff;
@@ -58,6 +61,11 @@ pub struct Search {
     round: u64,
     awake_for: u64,
     sleeps: u64,
+    // how many hints each variable of level 0 takes, and how many literals of level 0 were gone through: for that, and for
+    // the clauses that they make true
+    hints: Vec<u32>,
+    counted: usize,
+    applied: usize,
 }
 
 impl Search {
@@ -66,6 +74,7 @@ impl Search {
         let trail = Trail::new(alloc, vars)?;
         let choice = Choice::new(alloc, vars)?;
         let analysis = Analysis::new(alloc, vars)?;
+        let hints = vec![in alloc; 1u32; vars as usize]?;
         Ok(Search {
             alloc,
             arena: Arena::new(alloc),
@@ -80,6 +89,9 @@ impl Search {
             round: 1,
             awake_for: FIRST_SLEEP,
             sleeps: 0,
+            hints,
+            counted: 0,
+            applied: 0,
         })
     }
 
@@ -123,12 +135,36 @@ impl Search {
         go_back(&mut self.trail, &mut self.choice, 0)?;
         self.round = self.round.wrapping_add(1);
         self.left = luby(self.round).wrapping_mul(ROUND);
+        if self.applied < self.trail.len() {
+            self.applied = self.trail.len();
+            self.drop_true();
+        }
         if self.awake_for == 0 {
             self.sleeps = self.sleeps.wrapping_add(1);
             self.awake_for = FIRST_SLEEP.wrapping_add(self.sleeps.wrapping_mul(MORE_SLEEP));
             self.put_to_sleep();
         }
         Ok(())
+    }
+
+    // Puts to sleep the clauses that are true at level 0: they give nothing any more.
+    fn drop_true(&mut self) {
+        for id in 0..self.arena.count() {
+            if self.is_true(small(id)) {
+                write(&mut self.asleep, id, true);
+            }
+        }
+        self.watches.drop_asleep(&self.asleep);
+    }
+
+    // Whether a literal of the clause is true.
+    fn is_true(&self, id: u32) -> bool {
+        for i in self.arena.start(id)..self.arena.end(id) {
+            if self.trail.is_true(self.arena.literal(i)) {
+                return true;
+            }
+        }
+        false
     }
 
     // Puts to sleep about half of the clauses that are awake: those over the most levels, which help least (Audemard and
@@ -231,6 +267,8 @@ impl Search {
             self.watches.push(first, id, second)?;
             self.watches.push(second, id, first)?;
             is_single = self.trail.is_false(second);
+        } else if self.trail.is_true(first) && self.trail.level_of(first) == 0 {
+            self.trail.justify(first, id);
         }
         if is_single && self.trail.value(first) == Value::Unset {
             self.trail.assign(first, id)?;
@@ -264,7 +302,7 @@ impl Search {
         }
     }
 
-    /// Decides until there is a conflict.
+    /// Decides until there is a conflict, or a literal of level 0 that gets a clause of its own.
     pub fn next(&mut self) -> Result<Found, Want> {
         if let Some(id) = self.clash {
             return Ok(Found::Lesson(self.lesson(id)?));
@@ -273,12 +311,47 @@ impl Search {
             if let Some(id) = self.watches.propagate(&mut self.arena, &mut self.trail)? {
                 return Ok(Found::Lesson(self.lesson(id)?));
             }
+            if let Some(l) = self.next_settled() {
+                return Ok(Found::Lesson(self.analysis.settled(&self.arena, &self.trail, l)?));
+            }
             match self.choice.next(&self.trail) {
                 None => return Ok(Found::Values),
                 Some(l) => self.trail.decide(l)?,
             }
         }
         Ok(Found::Values)
+    }
+
+    // The next literal of level 0 that takes many hints. Each lesson that needs it would have all of them; with a clause
+    // of its own it takes one.
+    fn next_settled(&mut self) -> Option<u32> {
+        if self.trail.level() > 0 {
+            return None;
+        }
+        for spot in self.counted..self.trail.len() {
+            self.counted = spot.wrapping_add(1);
+            let l = self.trail.literal_at(spot);
+            let hints = self.hints_of(l);
+            if hints > MOST_HINTS {
+                write(&mut self.hints, (l / 2) as usize, 1);
+                return Some(l);
+            }
+            write(&mut self.hints, (l / 2) as usize, hints);
+        }
+        None
+    }
+
+    // How many hints the literal takes: its reason, and those of the reason's others.
+    fn hints_of(&self, l: u32) -> u32 {
+        let reason = self.trail.reason_of(l / 2);
+        let mut hints: u32 = 1;
+        for i in self.arena.start(reason)..self.arena.end(reason) {
+            let v = self.arena.literal(i) / 2;
+            if v != l / 2 {
+                hints = hints.saturating_add(read(&self.hints, v as usize, 1));
+            }
+        }
+        hints
     }
 
     fn lesson(&mut self, conflict: u32) -> Result<Lesson, Want> {

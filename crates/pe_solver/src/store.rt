@@ -1,9 +1,10 @@
 //! The clauses by their numbers: those given, and behind them those kept.
 
-ghost use Rattle.std.specs.Prelude.{◌≡◌, ℕ, ◌%◌, ◌<◌, List, [], ◌∷◌, ◌++◌, length, IfOk, OnOk};
+ghost use Rattle.std.specs.Prelude.{◌≡◌, ℕ, ◌%◌, ◌<◌, [], ◌∷◌, ◌++◌, length, IfOk, OnOk};
 ghost use Rattle.pe_cnf.specs.Clause.{clause_at};
-ghost use Rattle.pe_solver.specs.Masks.{IsMask, AreMasks};
+ghost use Rattle.pe_solver.specs.Masks.{buckets, IsMask, IsOfRest, IsLastBelow};
 
+use crate::links::Links;
 use pe_base::Want;
 use pe_cnf::{ClauseList, Clauses};
 use pe_graph::Lit;
@@ -14,7 +15,7 @@ use std::marker::Model;
 #[derive(Drop)]
 pub struct Store {
     list: ClauseList,
-    masks: Vec<u64>,
+    links: Links,
 }
 
 impl Model for Store {
@@ -25,25 +26,26 @@ impl Model for Store {
 
     ghost view = { λ s. s.list };
 
-    ghost invariant = { λ s. AreMasks s.list s.masks.items };
+    ghost invariant = { λ s. AreMasks s.list s.links };
 }
 
 impl Store {
     /// No clauses.
-    fn new(alloc: Global) -> Store
-        ensures { result ≡ [] }
+    fn new(alloc: Global) -> Result<Store, Want>
+        ensures { IfOk result (λ all. all ≡ []) }
     {
-        Store {
+        let links = Links::new(alloc)?;
+        Ok(Store {
             list: ClauseList::new(alloc),
-            masks: Vec::new(alloc),
-        }
+            links,
+        })
     }
 
     /// The given clauses.
     pub fn of(alloc: Global, given: &Clauses) -> Result<Store, Want>
         ensures { IfOk result (λ all. all ≡ given.now.clauses) }
     {
-        let mut all = Store::new(alloc);
+        let mut all = Store::new(alloc)?;
         for id in 0..given.count() {
             all.push(given.clause(id))?;
         }
@@ -70,7 +72,22 @@ impl Store {
         requires { id < length self.now }
         ensures { IsMask (clause_at self.now id) result }
     {
-        self.masks[id as usize]
+        self.links.mask(id)
+    }
+
+    /// One more than the number of the last clause whose mask has the remainder of the given one, or 0.
+    pub fn last(&self, mask: u64) -> u64
+        ensures { IsLastBelow self.now (length self.now) (mask % buckets) result }
+    {
+        self.links.last(mask)
+    }
+
+    /// One more than the number of the last clause before this one whose mask has the same remainder, or 0.
+    pub fn before(&self, id: u64) -> u64
+        requires { id < length self.now }
+        ensures { (r : ℕ) → IsOfRest (clause_at self.now id) r → IsLastBelow self.now id r result }
+    {
+        self.links.before(id)
     }
 
     /// One clause more, with the next number.
@@ -78,12 +95,12 @@ impl Store {
         ensures ok { OnOk result (self.new ≡ self.old ++ clause.now ∷ []) }
     {
         let mask = mask_of(clause);
-        match self.masks.push(mask) {
+        match self.links.push(mask) {
             Err(_) => Err(Want),
             Ok(()) => match self.list.push(clause) {
                 Ok(()) => Ok(()),
                 Err(_) => {
-                    let _mask = self.masks.pop();
+                    self.links.pop();
                     Err(Want)
                 }
             },

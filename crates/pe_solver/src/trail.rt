@@ -107,6 +107,11 @@ impl Trail {
         Ok(())
     }
 
+    /// The clause is the reason of the literal, which is true, from now on.
+    pub fn justify(&mut self, l: u32, reason: u32) {
+        write(&mut self.reasons, (l / 2) as usize, reason);
+    }
+
     /// Begins the next level with the literal.
     pub fn decide(&mut self, l: u32) -> Result<(), Want> {
         let count = self.order.len();

@@ -1,7 +1,10 @@
-use Rattle.std.proofs.Common.{◌<◌, ℕ}
-use Rattle.pe_cnf.specs.Clause.{clause_at}
-use Rattle.pe_solver.specs.Derivation.{AreSame}
+use Rattle.std.proofs.Common.{◌%◌}
+use Rattle.pe_solver.specs.Masks.{buckets}
+use Rattle.pe_solver.proofs.LinkLemmas.{IsPassed}
 use Rattle.pe_solver.proofs.same.find_same.Given as goal
 
-abbrev pub invariant-loop-id : goal.invariant-loop-id
-invariant-loop-id l = (k : ℕ) → k < l.id → AreSame (clause_at l.all k) l.clause → ⊥
+abbrev pub invariant-loop-above : goal.invariant-loop-above
+invariant-loop-above l = IsPassed l.all l.clause (l.mask % buckets) l.above
+
+abbrev pub decreases-loop-above : goal.decreases-loop-above
+decreases-loop-above l = l.above
