@@ -11,7 +11,7 @@ use Rattle.pe_supply.specs.Labels.{relabel, with_joined, AreFirst, AreLabelled}
 use Rattle.pe_supply.specs.Numbers.{AreTied, IsChain, AreOne}
 use Rattle.pe_supply.proofs.Naming.{place_at}
 
-abbrev Ties : Type 0
+abbrev pub Ties : Type 0
 Ties = List (List ℕ × List ℕ)
 
 -- a name is one with itself
@@ -68,20 +68,20 @@ relabel_by false from to label e l = omega arith
 relabel_le : (from to label : ℕ) → to ≤ from → relabel from to label ≤ label
 relabel_le from to label l = relabel_by (label == from) from to label refl l
 
-relabel_zero : (from to : ℕ) → to ≤ from → relabel from to 0 ≡ 0
+pub relabel_zero : (from to : ℕ) → to ≤ from → relabel from to 0 ≡ 0
 relabel_zero from to l = let z : relabel from to 0 ≤ 0 = relabel_le from to 0 l in omega arith
 
-relabel_from : (from to label : ℕ) → label ≡ from → relabel from to label ≡ to
+pub relabel_from : (from to label : ℕ) → label ≡ from → relabel from to label ≡ to
 relabel_from from to label e = let t : (label == from) ≡ true = eq-eqb label from e in rw t refl
 
-relabel_other : (from to label : ℕ) → (label == from) ≡ false → relabel from to label ≡ label
+pub relabel_other : (from to label : ℕ) → (label == from) ≡ false → relabel from to label ≡ label
 relabel_other from to label e = rw e refl
 
 relabel_to_by : (b : Bool) (from to : ℕ) → (to == from) ≡ b → cond b to to ≡ to
 relabel_to_by true from to e = refl
 relabel_to_by false from to e = refl
 
-relabel_to : (from to : ℕ) → relabel from to to ≡ to
+pub relabel_to : (from to : ℕ) → relabel from to to ≡ to
 relabel_to from to = relabel_to_by (to == from) from to refl
 
 -- the places with these labels are given one

@@ -1,5 +1,5 @@
 -- What drives supplies, and which nets ports are on.
-use Rattle.std.specs.Prelude.{◌≡◌, ℕ, zero, suc, ◌<◌, ◌==◌, nat_lt, Bool, not, ◌||◌, ◌&&◌, cond, List, [], ◌∷◌, ◌++◌, map, filter, find, count_by, Option, Some, None, Contains}
+use Rattle.std.specs.Prelude.{◌≡◌, ℕ, zero, suc, ◌<◌, ◌==◌, nat_lt, Bool, not, ◌||◌, ◌&&◌, cond, List, [], ◌∷◌, ◌++◌, length, map, filter, find, count_by, slice_index, Option, Some, None, Contains}
 use Rattle.std.specs.List.{list_any}
 use Rattle.std.specs.Option.{option_map}
 use Rattle.std.specs.Str.{bytes_eq}
@@ -21,6 +21,11 @@ drives i edge = edge.0 == i
 -- two outputs of switches are names of the supply
 abbrev pub is_driven_twice : List (ℕ × ℕ) → ℕ → Bool
 is_driven_twice edges i = nat_lt 1 (count_by (drives i) edges)
+
+-- how many switches drive each of so many supplies
+pub record AreCounts (edges : List (ℕ × ℕ)) (count : ℕ) (counts : List ℕ) : Type 0 where
+  pub long : length counts ≡ count
+  pub each : (i : ℕ) → i < count → slice_index counts i ≡ count_by (drives i) edges
 
 -- the first name of the first such supply
 abbrev pub first_driven_twice : List (List ℕ × ℕ) → List (ℕ × ℕ) → Option (List ℕ)

@@ -1,8 +1,12 @@
 pub mod Building
 pub mod Drivers
+pub mod Forests
 pub mod Gathering
+pub mod Keys
 pub mod Labels
+pub mod Lookups
 pub mod Numbers
+pub mod Parts
 pub mod Plans
 pub mod Rows
 pub mod States

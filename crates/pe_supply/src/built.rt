@@ -1,6 +1,6 @@
 //! The supplies of an intent.
 
-ghost use Rattle.std.specs.Prelude.{◌≡◌, ◌⊎◌, map, IfOk, IfErr, MatchResult, Result, Err};
+ghost use Rattle.std.specs.Prelude.{◌≡◌, ◌⊎◌, IfOk, IfErr, MatchResult, Result, Err};
 ghost use Rattle.std.specs.List.{AllZip};
 ghost use Rattle.pe_supply.specs.declared.fault.SupplyFault.{SupplyFault};
 ghost use Rattle.pe_supply.specs.declared.fault.SupplyFault.TheVariants as fault;
@@ -8,7 +8,7 @@ ghost use Rattle.pe_supply.specs.declared.plan.Plan.{Plan};
 ghost use Rattle.pe_supply.specs.declared.supplies.Supplies.{Supplies};
 ghost use Rattle.pe_supply.specs.Building.{AreNamed, AreDriven, AreOnNets, AreFed, HaveFunctions, HaveRows, HaveTable, AreLong, HaveStates, AreFew, AreSupplies, IsBuilt, IsRefusal, IsRefused, IsOutcome, IsSwitchOf};
 ghost use Rattle.pe_supply.specs.Drivers.{edges_of};
-ghost use Rattle.pe_supply.specs.Numbers.{number_of};
+ghost use Rattle.pe_supply.specs.Parts.{with_names};
 ghost use Rattle.pe_supply.specs.Steps.{told};
 ghost use Rattle.pe_supply.specs.Tables.{table_in};
 ghost use Rattle.pe_supply.specs.Plans.{plan_of};
@@ -18,16 +18,18 @@ ghost use Rattle.pe_upf_read.specs.declared.intent.Intent.{Intent};
 
 use crate::drivers::{edges_of, first_driven_twice, first_elsewhere, first_looped, roots};
 use crate::fault::SupplyFault;
+use crate::levels::{StateIndex, state_keys};
+use crate::lookup::Lookup;
 use crate::numbers::{first_name, number_names, supply_count};
 use crate::plan::Plan;
 use crate::planning::plan_of;
-use crate::supplies::{Supplies, Switch};
+use crate::supplies::{Row, Supplies, Switch};
 use crate::switches::make_switches;
 use crate::tables::{
-    columns, first_unknown, first_unlike, port_numbers, rows_in, second_table, sets_in, table_in,
+    columns, first_unknown, first_unlike, rows_in, second_table, sets_in, table_in,
 };
 use crate::uses::first_missing;
-use pe_base::Name;
+use pe_base::{Name, Want};
 use pe_upf_read::Intent;
 use sqlite_items::Items;
 use std::alloc::Global;
@@ -36,6 +38,16 @@ use std::alloc::Global;
 const ROWS: usize = 64;
 
 const SUPPLIES: u64 = 64;
+
+/// What supplies have besides their names.
+#[derive(Drop)]
+struct Parts {
+    roots: Items<u32>,
+    switches: Items<Switch>,
+    sets: Items<(Name, Option<u32>, Option<u32>)>,
+    table: Items<u32>,
+    rows: Items<Row>,
+}
 
 /// A number, or the greatest where it is larger.
 fn told(count: u64) -> u32
@@ -72,7 +84,7 @@ fn check_once(
     requires edges { edges.now ≡ edges_of names.now plan.now.switches }
     ensures { MatchResult result (λ _. AreDriven plan.now names.now) (IsRefusal plan.now) }
 {
-    match first_driven_twice(edges, supply_count(names)) {
+    match first_driven_twice(alloc, edges, supply_count(names))? {
         Some(supply) => {
             let name = Name::new(alloc, first_name(names, supply))?;
             Err(SupplyFault::TwoDrivers { name })
@@ -157,21 +169,22 @@ fn check_lengths(alloc: Global, plan: &Plan, names: &[(Name, u32)]) -> Result<()
     }
 }
 
-/// Whether the words of the rows are states. The numbers are those of the states' ports.
+/// Whether the words of the rows are states.
 fn check_words(
     alloc: Global,
     plan: &Plan,
     names: &[(Name, u32)],
-    numbers: &[u32],
+    states: &StateIndex,
     table: &[u32],
 ) -> Result<(), SupplyFault>
     requires long { AreLong plan.now names.now }
-    requires numbers { numbers.now ≡ map (λ state. number_of names.now state.port) plan.now.states }
+    requires names { states.now.names ≡ names.now }
+    requires states { states.now.states ≡ plan.now.states }
     requires table { table.now ≡ table_in names.now plan.now.tables }
     ensures { MatchResult result (λ _. HaveStates plan.now names.now) (IsRefusal plan.now) }
 {
-    let states = plan.states.as_slice();
-    match first_unknown(names, numbers, states, table, plan.rows.as_slice()) {
+    let _names = names;
+    match first_unknown(alloc, states, table, plan.rows.as_slice())? {
         Some(name) => {
             let name = name.copy(alloc)?;
             Err(SupplyFault::NoState { name })
@@ -185,18 +198,19 @@ fn check_rows(
     alloc: Global,
     plan: &Plan,
     names: &[(Name, u32)],
-    numbers: &[u32],
+    states: &StateIndex,
     table: &[u32],
 ) -> Result<(), SupplyFault>
     requires functions { HaveFunctions plan.now names.now }
-    requires numbers { numbers.now ≡ map (λ state. number_of names.now state.port) plan.now.states }
+    requires names { states.now.names ≡ names.now }
+    requires states { states.now.states ≡ plan.now.states }
     requires table { table.now ≡ table_in names.now plan.now.tables }
     ensures { MatchResult result (λ _. HaveStates plan.now names.now) (IsRefusal plan.now) }
 {
     check_some(plan, names)?;
     check_table(alloc, plan, names)?;
     check_lengths(alloc, plan, names)?;
-    check_words(alloc, plan, names, numbers, table)?;
+    check_words(alloc, plan, names, states, table)?;
     Ok(())
 }
 
@@ -236,37 +250,29 @@ fn check_sizes(plan: &Plan, names: &[(Name, u32)]) -> Result<(), SupplyFault>
     Ok(())
 }
 
-/// The supplies of a plan of which no refusal holds.
-fn make_supplies(
+/// What the supplies of a plan of which no refusal holds have besides their names.
+fn make_parts(
     alloc: Global,
     plan: &Plan,
-    names: Items<(Name, u32)>,
-    numbers: &[u32],
+    names: &Lookup,
+    states: &StateIndex,
     edges: &[(u32, u32)],
     table: Items<u32>,
     switches: Items<Switch>,
-) -> Result<Supplies, SupplyFault>
-    requires few { AreFew plan.now names }
-    requires numbers { numbers.now ≡ map (λ state. number_of names state.port) plan.now.states }
-    requires edges { edges.now ≡ edges_of names plan.now.switches }
-    requires table { table ≡ table_in names plan.now.tables }
-    requires switches { AllZip (IsSwitchOf names) plan.now.switches switches }
-    ensures { MatchResult result (AreSupplies plan.now) (λ f. f ≡ fault.Memory) }
+) -> Result<Parts, Want>
+    requires few { AreFew plan.now names.now }
+    requires names { states.now.names ≡ names.now }
+    requires states { states.now.states ≡ plan.now.states }
+    requires edges { edges.now ≡ edges_of names.now plan.now.switches }
+    requires table { table ≡ table_in names.now plan.now.tables }
+    requires switches { AllZip (IsSwitchOf names.now) plan.now.switches switches }
+    ensures { IfOk result (λ parts. AreSupplies plan.now (with_names names.now parts)) }
 {
-    let count = supply_count(names.as_slice());
+    let count = supply_count(names.names());
     let roots = roots(alloc, edges, count as u32)?;
-    let sets = sets_in(alloc, names.as_slice(), plan.sets.as_slice())?;
-    let states = plan.states.as_slice();
-    let rows = rows_in(
-        alloc,
-        names.as_slice(),
-        numbers,
-        states,
-        table.as_slice(),
-        plan.rows.as_slice(),
-    )?;
-    Ok(Supplies {
-        names,
+    let sets = sets_in(alloc, names, plan.sets.as_slice())?;
+    let rows = rows_in(alloc, states, table.as_slice(), plan.rows.as_slice())?;
+    Ok(Parts {
         roots,
         switches,
         sets,
@@ -275,28 +281,49 @@ fn make_supplies(
     })
 }
 
-/// The supplies of a plan with these names and switches, or why it has none.
+/// What the supplies of a plan with these names and switches have besides, or why it has none.
 fn finish(
     alloc: Global,
     plan: &Plan,
-    names: Items<(Name, u32)>,
+    names: &Lookup,
     edges: &[(u32, u32)],
     switches: Items<Switch>,
-) -> Result<Supplies, SupplyFault>
-    requires functions { HaveFunctions plan.now names }
-    requires edges { edges.now ≡ edges_of names plan.now.switches }
-    requires switches { AllZip (IsSwitchOf names) plan.now.switches switches }
-    ensures { MatchResult result (AreSupplies plan.now) (IsRefusal plan.now) }
+) -> Result<Parts, SupplyFault>
+    requires functions { HaveFunctions plan.now names.now }
+    requires edges { edges.now ≡ edges_of names.now plan.now.switches }
+    requires switches { AllZip (IsSwitchOf names.now) plan.now.switches switches }
+    ensures { MatchResult result (λ parts. AreSupplies plan.now (with_names names.now parts)) (IsRefusal plan.now) }
 {
     let columns = columns(plan.tables.as_slice());
-    let table = table_in(alloc, names.as_slice(), columns)?;
-    let numbers = port_numbers(alloc, names.as_slice(), plan.states.as_slice())?;
-    let ports = numbers.as_slice();
-    check_rows(alloc, plan, names.as_slice(), ports, table.as_slice())?;
-    check_sizes(plan, names.as_slice())?;
-    match make_supplies(alloc, plan, names, ports, edges, table, switches) {
-        Ok(supplies) => Ok(supplies),
-        Err(_memory) => Err(SupplyFault::Memory),
+    let table = table_in(alloc, names, columns)?;
+    let keys = state_keys(alloc, names, plan.states.as_slice())?;
+    let states = StateIndex::of(
+        alloc,
+        names.names(),
+        plan.states.as_slice(),
+        keys.as_slice(),
+    )?;
+    check_rows(alloc, plan, names.names(), &states, table.as_slice())?;
+    check_sizes(plan, names.names())?;
+    let parts = make_parts(alloc, plan, names, &states, edges, table, switches)?;
+    Ok(parts)
+}
+
+/// What the supplies of a plan with these names have besides, or why it has none.
+fn parts_of(alloc: Global, plan: &Plan, names: &[(Name, u32)]) -> Result<Parts, SupplyFault>
+    requires whole { IsWhole plan.now }
+    requires named { AreNamed plan.now names.now }
+    ensures { MatchResult result (λ parts. AreSupplies plan.now (with_names names.now parts)) (IsRefusal plan.now) }
+{
+    let lookup = Lookup::of(alloc, names)?;
+    let edges = edges_of(alloc, &lookup, plan.switches.as_slice())?;
+    check_drivers(alloc, plan, names, edges.as_slice())?;
+    match make_switches(alloc, &lookup, plan.switches.as_slice())? {
+        Ok(switches) => {
+            let parts = finish(alloc, plan, &lookup, edges.as_slice(), switches)?;
+            Ok(parts)
+        }
+        Err(name) => Err(SupplyFault::Expression { name }),
     }
 }
 
@@ -306,15 +333,21 @@ fn build_plan(alloc: Global, plan: &Plan) -> Result<Supplies, SupplyFault>
     ensures { MatchResult result (AreSupplies plan.now) (IsRefusal plan.now) }
 {
     let names = name_all(alloc, plan)?;
-    let edges = edges_of(alloc, names.as_slice(), plan.switches.as_slice())?;
-    check_drivers(alloc, plan, names.as_slice(), edges.as_slice())?;
-    match make_switches(alloc, names.as_slice(), plan.switches.as_slice())? {
-        Ok(switches) => {
-            let supplies = finish(alloc, plan, names, edges.as_slice(), switches)?;
-            Ok(supplies)
-        }
-        Err(name) => Err(SupplyFault::Expression { name }),
-    }
+    let Parts {
+        roots,
+        switches,
+        sets,
+        table,
+        rows,
+    } = parts_of(alloc, plan, names.as_slice())?;
+    Ok(Supplies {
+        names,
+        roots,
+        switches,
+        sets,
+        table,
+        rows,
+    })
 }
 
 /// The supplies of an intent.

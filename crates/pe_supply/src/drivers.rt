@@ -1,14 +1,13 @@
 //! What drives supplies, and which nets ports are on.
 
-ghost use Rattle.std.specs.Prelude.{◌≡◌, ℕ, ◌<◌, ◌&&◌, ◌||◌, true, false, not, filter, find, slice_get, IfOk, MatchOption, Some, []};
+ghost use Rattle.std.specs.Prelude.{◌≡◌, ℕ, ◌<◌, ◌&&◌, ◌||◌, true, false, not, filter, find, nat_lt, slice_get, IfOk, MatchOption, Some, []};
 ghost use Rattle.std.specs.List.{range_with_len, All};
 ghost use Rattle.std.specs.Option.{option_map_or};
 ghost use Rattle.std.specs.Str.{bytes_eq};
 ghost use Rattle.pe_base.specs.Names.{has_name, place_of};
-ghost use Rattle.pe_supply.specs.Drivers.{edge_of, edges_of, is_driven_twice, is_root, first_elsewhere, next_of, IsLooped, IsFirstLooped};
-ghost use Rattle.pe_supply.specs.Numbers.{number_of};
+ghost use Rattle.pe_supply.specs.Drivers.{edge_of, edges_of, is_driven_twice, is_root, first_elsewhere, next_of, AreCounts, IsLooped, IsFirstLooped};
 
-use crate::numbers::number_of;
+use crate::lookup::Lookup;
 use crate::plan::SwitchText;
 use crate::planning::output_name;
 use pe_base::{Name, NameSet, Want};
@@ -19,21 +18,21 @@ use std::alloc::Global;
 /// The supply of a switch's output, and that of its input.
 pub(crate) fn edge_of(
     alloc: Global,
-    names: &[(Name, u32)],
+    names: &Lookup,
     switch: &SwitchText,
 ) -> Result<(u32, u32), Want>
     ensures { IfOk result (λ edge. edge ≡ edge_of names.now switch.now) }
 {
     let output = output_name(alloc, switch.name.bytes(), switch.output.0.bytes())?;
-    let to = number_of(names, output.bytes());
-    let from = number_of(names, switch.input.1.bytes());
+    let to = names.number(output.bytes());
+    let from = names.number(switch.input.1.bytes());
     Ok((to, from))
 }
 
 /// The supplies of the switches.
 pub(crate) fn edges_of(
     alloc: Global,
-    names: &[(Name, u32)],
+    names: &Lookup,
     switches: &[SwitchText],
 ) -> Result<Items<(u32, u32)>, Want>
     ensures { IfOk result (λ edges. edges ≡ edges_of names.now switches.now) }
@@ -45,29 +44,42 @@ pub(crate) fn edges_of(
     Ok(edges)
 }
 
-/// Whether the outputs of two switches are names of the supply.
-fn is_driven_twice(edges: &[(u32, u32)], supply: u64) -> bool
-    ensures { result ≡ is_driven_twice edges.now supply }
+/// How many switches drive each of so many supplies.
+fn driver_counts(alloc: Global, edges: &[(u32, u32)], count: u64) -> Result<Vec<usize>, Want>
+    ensures { IfOk result (λ counts. AreCounts edges.now count counts.items) }
 {
-    let mut count: usize = 0;
+    let mut counts = vec![in alloc; 0usize; count as usize]?;
     for edge in edges {
-        if u64::from(edge.0) == supply {
-            count += 1;
+        let supply = edge.0 as usize;
+        if supply < counts.len() {
+            counts[supply] += 1;
         }
     }
+    Ok(counts)
+}
+
+/// Whether so many drivers are two or more.
+fn are_several(count: usize) -> bool
+    ensures { result ≡ nat_lt 1 count }
+{
     count > 1
 }
 
 /// The first supply of which the outputs of two switches are names.
-pub(crate) fn first_driven_twice(edges: &[(u32, u32)], count: u64) -> Option<u64>
-    ensures { result ≡ find (is_driven_twice edges.now) (range_with_len 0 count) }
+pub(crate) fn first_driven_twice(
+    alloc: Global,
+    edges: &[(u32, u32)],
+    count: u64,
+) -> Result<Option<u64>, Want>
+    ensures { IfOk result (λ supply. supply ≡ find (is_driven_twice edges.now) (range_with_len 0 count)) }
 {
+    let counts = driver_counts(alloc, edges, count)?;
     for supply in 0..count {
-        if is_driven_twice(edges, supply) {
-            return Some(supply);
+        if are_several(counts[supply as usize]) {
+            return Ok(Some(supply));
         }
     }
-    None
+    Ok(None)
 }
 
 /// Whether no switch drives the supply.

@@ -5,6 +5,8 @@
 mod built;
 mod drivers;
 mod fault;
+mod levels;
+mod lookup;
 mod numbers;
 mod permitted;
 mod plan;

@@ -1,10 +1,11 @@
 //! The numbers of supplies: which names are one supply, and where it is first named.
 
-ghost use Rattle.std.specs.Prelude.{◌≡◌, ◌^◌, ◌<◌, true, length, map, max, min, slice_index, IfOk};
+ghost use Rattle.std.specs.Prelude.{◌≡◌, ◌^◌, ◌<◌, true, length, IfOk};
 ghost use Rattle.std.specs.List.{All, range_with_len};
 ghost use Rattle.pe_base.specs.Names.{has_name};
-ghost use Rattle.pe_supply.specs.Labels.{relabel, with_joined, AreApart, AreLabelled, AreFirst, AreCounted};
-ghost use Rattle.pe_supply.specs.Numbers.{distinct, names_in, numbers_in, AreNumbered, number_of, supply_count, first_name};
+ghost use Rattle.pe_supply.specs.Forests.{IsForest, root_of, roots_of};
+ghost use Rattle.pe_supply.specs.Labels.{with_joined, AreApart, AreLabelled, AreFirst, AreCounted};
+ghost use Rattle.pe_supply.specs.Numbers.{distinct, names_in, numbers_in, AreNumbered, supply_count, first_name};
 
 use pe_base::{Name, NameSet, Want};
 use pe_nets::NameIndex;
@@ -26,38 +27,55 @@ fn distinct(alloc: Global, names: &[Name]) -> Result<Items<Name>, Want>
 }
 
 /// The numbers below a count.
-fn numbers_below(alloc: Global, count: u32) -> Result<Items<u32>, Want>
-    ensures { IfOk result (λ numbers. numbers ≡ range_with_len 0 count) }
+fn numbers_below(alloc: Global, count: u32) -> Result<Vec<u32>, Want>
+    ensures { IfOk result (λ numbers. numbers.items ≡ range_with_len 0 count) }
 {
-    let mut numbers = Items::new(alloc);
+    let mut numbers = Vec::new(alloc);
     for number in 0..count {
         numbers.push(number)?;
     }
     Ok(numbers)
 }
 
-/// The labels, of which one is replaced by another.
-fn relabelled(alloc: Global, labels: &[u32], from: u32, to: u32) -> Result<Items<u32>, Want>
-    ensures { IfOk result (λ new. new ≡ map (relabel from to) labels.now) }
+/// The root over a place. Each second place on the way is put two steps higher (path halving), so that many ways together
+/// take few steps.
+fn root(above: &mut [u32], place: usize) -> u32
+    requires forest { IsForest above.old }
+    requires inside { place < length above.old }
+    ensures root { result ≡ root_of above.old place }
+    ensures forest { IsForest above.new }
+    ensures same { roots_of above.new ≡ roots_of above.old }
 {
-    let mut new = Items::new(alloc);
-    for label in labels {
-        new.push(if *label == from { to } else { *label })?;
+    let mut k = place;
+    while above[k] as usize != k {
+        let higher = above[above[k] as usize];
+        above[k] = higher;
+        k = higher as usize;
     }
-    Ok(new)
+    above[k]
 }
 
-/// The labels with two places made one: all that have the greater label of the two have the smaller.
-fn joined(alloc: Global, labels: Items<u32>, i: usize, j: usize) -> Result<Items<u32>, Want>
-    requires first { i < length labels }
-    requires second { j < length labels }
-    ensures { IfOk result (λ new. new ≡ with_joined labels (slice_index labels i) (slice_index labels j)) }
+/// Two places put under one root: of their two roots the later comes under the earlier.
+fn link(above: &mut [u32], i: usize, j: usize)
+    requires forest { IsForest above.old }
+    requires first { i < length above.old }
+    requires second { j < length above.old }
+    ensures forest { IsForest above.new }
+    ensures joined { roots_of above.new ≡ with_joined (roots_of above.old) (root_of above.old i) (root_of above.old j) }
 {
-    let (x, y) = (labels.as_slice()[i], labels.as_slice()[j]);
-    if x == y {
-        return Ok(labels);
+    let x = root(above, i);
+    let y = root(above, j);
+    above[x.max(y) as usize] = x.min(y);
+}
+
+/// Each place put right under its root. A place above another comes before it, so it is under its own root by then.
+fn flatten(above: &mut [u32])
+    requires { IsForest above.old }
+    ensures { above.new ≡ roots_of above.old }
+{
+    for k in 0..above.len() {
+        above[k] = above[above[k] as usize];
     }
-    relabelled(alloc, labels.as_slice(), x.max(y), x.min(y))
 }
 
 /// The places of names, each of which stands there once.
@@ -80,13 +98,14 @@ fn label(alloc: Global, names: &[Name], ties: &[(Name, Name)]) -> Result<Items<u
     ensures { IfOk result (AreLabelled names.now ties.now) }
 {
     let index = index_of(alloc, names)?;
-    let mut labels = numbers_below(alloc, names.len() as u32)?;
+    let mut above = numbers_below(alloc, names.len() as u32)?;
     for tie in ties {
         let i = index.place(tie.0.bytes());
         let j = index.place(tie.1.bytes());
-        labels = joined(alloc, labels, i, j)?;
+        link(&mut above, i, j);
     }
-    Ok(labels)
+    flatten(&mut above);
+    Ok(Items::from_vec(above))
 }
 
 /// The number of each place's supply, by the labels: counted from 0 by first places.
@@ -141,18 +160,6 @@ pub(crate) fn number_names(
     let numbers = count_off(alloc, labels.as_slice())?;
     let pairs = with_numbers(alloc, names.as_slice(), numbers.as_slice())?;
     Ok(pairs)
-}
-
-/// The supply of a name.
-pub(crate) fn number_of(names: &[(Name, u32)], name: &[u8]) -> u32
-    ensures { result ≡ number_of names.now name.now }
-{
-    for pair in names {
-        if pair.0.is(name) {
-            return pair.1;
-        }
-    }
-    0
 }
 
 /// How many supplies there are.

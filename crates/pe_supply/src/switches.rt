@@ -7,6 +7,7 @@ ghost use Rattle.pe_bool_expr.specs.Reading.{IsFunction};
 ghost use Rattle.pe_supply.specs.Building.{controls_of, IsUnread, IsRefusedSwitch, IsSwitchOf, IsFirstRefused};
 
 use crate::drivers::edge_of;
+use crate::lookup::Lookup;
 use crate::plan::SwitchText;
 use crate::planning::copy_pairs;
 use crate::supplies::Switch;
@@ -64,7 +65,7 @@ fn read_all(alloc: Global, texts: &[Name], names: &[Name]) -> Result<Option<Item
 /// A switch of these functions.
 fn with_functions(
     alloc: Global,
-    names: &[(Name, u32)],
+    names: &Lookup,
     text: &SwitchText,
     on: Expr,
     off: Items<Expr>,
@@ -87,11 +88,7 @@ fn with_functions(
 }
 
 /// A switch, or none where an expression is no function.
-fn make_switch(
-    alloc: Global,
-    names: &[(Name, u32)],
-    text: &SwitchText,
-) -> Result<Option<Switch>, Want>
+fn make_switch(alloc: Global, names: &Lookup, text: &SwitchText) -> Result<Option<Switch>, Want>
     ensures { IfOk result (λ o. MatchOption o (IsRefusedSwitch text.now) (IsSwitchOf names.now text.now)) }
 {
     let controls = control_names(alloc, text.controls.as_slice())?;
@@ -110,7 +107,7 @@ fn make_switch(
 /// The switches, or the name of the first of which an expression is no function.
 pub(crate) fn make_switches(
     alloc: Global,
-    names: &[(Name, u32)],
+    names: &Lookup,
     texts: &[SwitchText],
 ) -> Result<Result<Items<Switch>, Name>, Want>
     ensures { IfOk result (λ r. MatchResult r (AllZip (IsSwitchOf names.now) texts.now) (IsFirstRefused texts.now)) }

@@ -11,7 +11,8 @@ returns-in_ok-name-in-Some c =
     let p = c.args.plan.now in
     let names = c.args.names.now in
     let found : Some c.in-Some.supply ≡ find (is_driven_twice (edges_of names p.switches)) (supplies_in names) =
-    c.in-Some.ensures
+    sym c.in-Some.is
+    ∙ c.in_ok-supply.ensures
     ∙ ap (λ n. find (is_driven_twice c.args.edges.now) (range_with_len 0 n)) c.supply_count.ensures
     ∙ ap (λ es. find (is_driven_twice es) (range_with_len 0 (supply_count names))) c.requires.edges in
     let name : c.in_ok-name-in-Some.name ≡ first_name names c.in-Some.supply = c.in_ok-name-in-Some.ensures ∙ c.first_name.ensures in
@@ -22,7 +23,8 @@ returns-in-None c =
     let p = c.args.plan.now in
     let names = c.args.names.now in
     let none : None ≡ find (is_driven_twice (edges_of names p.switches)) (supplies_in names) =
-    c.in-None.ensures
+    sym c.in-None.is
+    ∙ c.in_ok-supply.ensures
     ∙ ap (λ n. find (is_driven_twice c.args.edges.now) (range_with_len 0 n)) c.supply_count.ensures
     ∙ ap (λ es. find (is_driven_twice es) (range_with_len 0 (supply_count names))) c.requires.edges in
     record { named = c.requires.named; once = ap (option_map (first_name names)) (sym none) }

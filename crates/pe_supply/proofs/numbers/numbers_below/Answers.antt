@@ -4,4 +4,4 @@ use Rattle.pe_supply.proofs.numbers.numbers_below.Goals as goal
 
 pub loop-number-preserved : goal.loop-number-preserved
 loop-number-preserved c =
-    c.in_ok-push.ensures.ok ∙ ap (λ xs. xs ++ c.loop-number.number ∷ []) c.loop-number.invariant ∙ sym (range_more 0 c.loop-number.number c.loop-number.number (omega arith))
+    c.in_ok-push.ensures.items ∙ ap (λ xs. xs ++ c.loop-number.number ∷ []) c.loop-number.invariant ∙ sym (range_more 0 c.loop-number.number c.loop-number.number (omega arith))

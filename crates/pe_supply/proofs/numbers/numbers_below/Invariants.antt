@@ -3,4 +3,4 @@ use Rattle.std.specs.List.{range_with_len}
 use Rattle.pe_supply.proofs.numbers.numbers_below.Given as goal
 
 abbrev pub invariant-loop-number : goal.invariant-loop-number
-invariant-loop-number l = l.numbers ≡ range_with_len 0 l.number
+invariant-loop-number l = l.numbers.items ≡ range_with_len 0 l.number

@@ -3,4 +3,4 @@ use Rattle.pe_supply.specs.Tables.{first_unknown}
 use Rattle.pe_supply.proofs.tables.first_unknown.Given as goal
 
 abbrev pub invariant-loop-row : goal.invariant-loop-row
-invariant-loop-row l = first_unknown l.names l.states l.table l.rows ≡ first_unknown l.names l.states l.table (drop l.row-index l.rows)
+invariant-loop-row l = first_unknown l.states.names l.states.states l.table l.rows ≡ first_unknown l.states.names l.states.states l.table (drop l.row-index l.rows)

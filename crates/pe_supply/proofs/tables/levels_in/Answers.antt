@@ -11,5 +11,5 @@ returns c =
     let end : drop c.loop-i.i c.args.words.now ≡ [] = drop_all c.loop-i.i c.args.words.now c.loop-i-test.false in
     let none = zip_nil (drop c.loop-i.i c.args.table.now) (drop c.loop-i.i c.args.words.now) end in
     sym (append-nil c.loop-i.levels)
-    ∙ ap (λ cells. c.loop-i.levels ++ map (λ cell. unwrap_or (level_of c.args.names.now c.args.states.now cell.0 cell.1) Any) cells) (sym none)
+    ∙ ap (λ cells. c.loop-i.levels ++ map (λ cell. unwrap_or (level_of c.args.states.now.names c.args.states.now.states cell.0 cell.1) Any) cells) (sym none)
     ∙ c.loop-i.invariant

@@ -9,8 +9,8 @@ use Rattle.pe_supply.proofs.tables.rows_in.Goals as goal
 
 pub loop-text-preserved : goal.loop-text-preserved
 loop-text-preserved c =
-    let names = c.args.names.now in
-    let states = c.args.states.now in
+    let names = c.args.states.now.names in
+    let states = c.args.states.now.states in
     let table = c.args.table.now in
     let text = c.text-item.result in
     let levels : c.in_ok-levels.levels ≡ (row_in names states table text).levels =
